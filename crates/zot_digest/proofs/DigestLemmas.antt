@@ -13,11 +13,11 @@ use Rattle.hex.proofs.HexLemmas.{decode_of-encode_lower, decode_of-even, decode_
 use Rattle.zot_digest.specs.Digest.{IsDigest, algorithm, digest_named, digest_of_digits, digest_text, is_upper}
 
 -- a test of each number below n, which computes
-abbrev passes_below : (ℕ → Bool) → ℕ → Bool
+abbrev pub passes_below : (ℕ → Bool) → ℕ → Bool
 passes_below test zero = true
 passes_below test (suc n) = test n && passes_below test n
 
-passes-at : (test : ℕ → Bool) (n k : ℕ) → passes_below test n ≡ true → k < n → test k ≡ true
+pub passes-at : (test : ℕ → Bool) (n k : ℕ) → passes_below test n ≡ true → k < n → test k ≡ true
 passes-at test zero k h lt = absurd (omega arith)
 passes-at test (suc n) k h lt =
     let parts = and_parts (test n) (passes_below test n) h in

@@ -1,1 +1,3 @@
 pub mod DigestLemmas
+pub mod OrderLemmas
+pub mod ByteMapLemmas

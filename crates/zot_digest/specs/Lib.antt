@@ -1,2 +1,3 @@
 pub mod Digest
 pub mod Hasher
+pub mod ByteMap

@@ -12,5 +12,5 @@ mod words;
 pub use crate::bytes::Bytes;
 pub use crate::hasher::{Hasher, digest_of};
 pub use crate::reading::{BadDigest, parse_digest, read_digest};
-pub use crate::value::Digest;
+pub use crate::value::{Digest, ordered_as_text};
 pub use crate::words::Words;

@@ -1,5 +1,7 @@
 //! Values of SHA-256 from FIPS 180-4's examples and from `sha256sum`.
-use crate::{BadDigest, Bytes, Digest, Hasher, Words, digest_of, parse_digest, read_digest};
+use crate::{
+    BadDigest, Bytes, Digest, Hasher, Words, digest_of, ordered_as_text, parse_digest, read_digest,
+};
 use std::test::Fail;
 
 const OF_NOTHING: &str = "sha256:e3b0c44298fc1c149afbf4c8996fb92427ae41e4649b934ca495991b7852b855";
@@ -26,6 +28,7 @@ fn digests_of_known_bytes(rt: HostRuntime) -> Result<(), Fail> {
         assert_eq!(rt; hasher.finish(), digest);
     }
     let abc = digest_of(b"abc");
+    ordered_as_text();
     assert_eq!(rt; abc.first(), 0xba);
     assert_eq!(rt; abc.number(), 0xba7816bf8f01cfea);
     assert_eq!(rt; abc.as_bytes().len(), 32);
@@ -58,10 +61,12 @@ fn owned_lists(rt: HostRuntime) -> Result<(), Fail> {
     let alloc = rt.alloc();
     let bytes = Bytes::new(Vec::from_slice(alloc, b"abc")?);
     let copy = bytes.copy(alloc)?;
+    assert!(rt; copy == bytes && copy <= bytes && Bytes::new(Vec::new(alloc)) < copy);
     assert_eq!(rt; copy.as_slice(), b"abc".as_slice());
     assert_eq!(rt; bytes.into_vec().as_slice(), b"abc".as_slice());
     let words = Words::new(String::from_str(alloc, "text")?);
     let copy = words.copy(alloc)?;
+    assert!(rt; copy == words && copy <= words && Words::new(String::new(alloc)) < copy);
     assert_eq!(rt; copy.as_str(), "text");
     assert_eq!(rt; words.into_string().as_str(), "text");
     Ok(())

@@ -1,5 +1,7 @@
 //! A digest.
-ghost use Rattle.std.specs.Prelude.{◌≡◌, IfOk, slice_index, take};
+ghost use Rattle.std.specs.Prelude.{◌≡◌, ℕ, List, IfOk, slice_index, take};
+ghost use Rattle.std.specs.Cmp.Lexicographic.{slice_cmp};
+ghost use Rattle.std.specs.Ordering.{nat_cmp};
 ghost use Rattle.std.specs.Int.{w64, from_be_bytes};
 ghost use Rattle.std.specs.String.{string_bytes};
 ghost use Rattle.zot_digest.specs.Digest.{IsDigest, digest_text};
@@ -73,3 +75,8 @@ fn whole(bytes: &[u8; 32]) -> &[u8]
 {
     bytes.as_slice()
 }
+
+/// The law that two digests are ordered as their texts are, byte by byte.
+pub fn ordered_as_text()
+    ensures { (a b : List ℕ) → IsDigest a → IsDigest b → slice_cmp nat_cmp (digest_text a) (digest_text b) ≡ slice_cmp nat_cmp a b }
+{}
