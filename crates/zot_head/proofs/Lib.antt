@@ -1,0 +1,4 @@
+pub mod ChunkLemmas
+pub mod FoundLemmas
+pub mod FrontLemmas
+pub mod LineLemmas

@@ -1,0 +1,6 @@
+pub mod Chunked
+pub mod Fields
+pub mod Found
+pub mod Front
+pub mod Limits
+pub mod Lines

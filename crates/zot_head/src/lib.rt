@@ -1,0 +1,19 @@
+//! Heads and bodies of HTTP/1.1 requests, in this registry's profile of RFC 9112.
+#![tactic(auto)]
+
+mod chunk_error;
+mod field;
+mod field_list;
+mod found;
+mod framing;
+mod head;
+mod laws;
+mod lines;
+
+pub use crate::chunk_error::ChunkError;
+pub use crate::field::Field;
+pub use crate::field_list::FieldList;
+pub use crate::found::{Found, find_head};
+pub use crate::framing::Framing;
+pub use crate::head::Head;
+pub use crate::laws::{front_is_one, front_stays, message_takes};
