@@ -1,4 +1,5 @@
 pub mod ChunkLemmas
+pub mod DigitLemmas
 pub mod FoundLemmas
 pub mod FrontLemmas
 pub mod LineLemmas

@@ -2,6 +2,8 @@
 #![tactic(auto)]
 
 mod chunk_error;
+mod chunk_line;
+mod digits;
 mod field;
 mod field_list;
 mod found;
