@@ -3,3 +3,4 @@ pub mod DigitLemmas
 pub mod FoundLemmas
 pub mod FrontLemmas
 pub mod LineLemmas
+pub mod ProgressLemmas

@@ -4,3 +4,4 @@ pub mod Found
 pub mod Front
 pub mod Limits
 pub mod Lines
+pub mod Progress

@@ -1,9 +1,12 @@
 //! Heads and bodies of HTTP/1.1 requests, in this registry's profile of RFC 9112.
 #![tactic(auto)]
 
+mod after;
 mod chunk_error;
 mod chunk_line;
+mod chunks;
 mod digits;
+mod fed;
 mod field;
 mod field_list;
 mod found;
@@ -11,8 +14,12 @@ mod framing;
 mod head;
 mod laws;
 mod lines;
+mod pending;
+mod stage;
 
 pub use crate::chunk_error::ChunkError;
+pub use crate::chunks::Chunks;
+pub use crate::fed::Fed;
 pub use crate::field::Field;
 pub use crate::field_list::FieldList;
 pub use crate::found::{Found, find_head};

@@ -1,0 +1,137 @@
+ghost use Rattle.std.specs.Prelude.{◌≡◌, ◌↔◌, ℕ, ◌<◌, ◌≤◌, ◌^◌, List, [], length, drop, IfOk, IfErr, OnErr, IsTrue};
+
+use crate::after::{after_line_byte, after_tail_byte, after_trailer_byte};
+use crate::chunk_error::ChunkError;
+use crate::fed::Fed;
+use crate::pending::Pending;
+use crate::stage::Stage;
+use std::alloc::AllocError;
+use std::marker::Model;
+
+/// A reader of a body in chunks (RFC 9112, section 7.1), which comes in pieces.
+#[derive(Drop)]
+pub struct Chunks {
+    room: u64,
+    stage: Stage,
+    line: Pending,
+}
+
+impl Model for Chunks {
+    ghost use Rattle.zot_head.specs.Progress.{Progress, IsSound};
+
+    ghost Value = { Progress };
+
+    ghost view = { λ c. record { stage = c.stage; room = c.room; line = c.line } };
+
+    ghost invariant = { λ c. IsSound c.stage c.line };
+}
+
+impl Chunks {
+    ghost use Rattle.zot_head.specs.Chunked.{Body, Whole, Broken, chunked};
+    ghost use Rattle.zot_head.specs.Progress.{reading, goes_on, Advances, Answers};
+    ghost use Rattle.zot_head.specs.declared.chunk_error.ChunkError.TheVariants as errors;
+    ghost use Rattle.zot_head.specs.declared.stage.Stage.TheVariants as stages;
+
+    /// A reader at the front of a body of at most so many bytes. Takes no memory.
+    pub fn new(limit: u64) -> Self
+        ensures { (bytes : List ℕ) → reading result bytes ≡ chunked limit bytes }
+    {
+        Chunks {
+            room: limit,
+            stage: Stage::Line,
+            line: Pending::new(),
+        }
+    }
+
+    /// Whether the body isn't over.
+    fn goes_on(&self) -> bool
+        ensures { result ≡ goes_on self.now.stage }
+    {
+        match self.stage {
+            Stage::Done | Stage::Failed(_) => false,
+            Stage::Line | Stage::Bytes(_) | Stage::Tail(_) | Stage::Trailer(..) => true,
+        }
+    }
+
+    /// Gives out what the piece has of a chunk's bytes, of which so many are still to come.
+    fn take_bytes(
+        &mut self,
+        size: u64,
+        piece: &[u8],
+        out: &mut Vec<u8>,
+    ) -> Result<usize, AllocError>
+        requires stage { self.old.stage ≡ stages.Bytes size }
+        requires some { 0 < length piece.now }
+        ensures taken { IfOk result (λ n. (0 < n) × (n ≤ length piece.now)) }
+        ensures ok { IfOk result (λ n. Advances self.old piece.now self.new (drop n piece.now) out.old.items out.new.items) }
+        ensures err { OnErr result ((self.new.stage ≡ stages.Failed errors.NoMemory) × (out.new.items ≡ out.old.items)) }
+    {
+        let n = size.min(piece.len() as u64);
+        let len = n as usize;
+        if out.extend_from_slice(&piece[..len]).is_err() {
+            self.stage = Stage::Failed(ChunkError::NoMemory);
+            return Err(AllocError);
+        }
+        self.stage = if n == size {
+            Stage::Tail(None)
+        } else {
+            Stage::Bytes(size - n)
+        };
+        Ok(len)
+    }
+
+    /// One step: a byte, or what the piece has of a chunk's bytes. Answers how many bytes it took.
+    fn step(&mut self, piece: &[u8], out: &mut Vec<u8>) -> Result<usize, AllocError>
+        requires goes_on { IsTrue (goes_on self.old.stage) }
+        requires some { 0 < length piece.now }
+        ensures taken { IfOk result (λ n. (0 < n) × (n ≤ length piece.now)) }
+        ensures ok { IfOk result (λ n. Advances self.old piece.now self.new (drop n piece.now) out.old.items out.new.items) }
+        ensures err { OnErr result ((self.new.stage ≡ stages.Failed errors.NoMemory) × (out.new.items ≡ out.old.items)) }
+    {
+        let byte = piece[0];
+        match self.stage {
+            Stage::Line => {
+                let (stage, room) = after_line_byte(&mut self.line, self.room, byte);
+                self.stage = stage;
+                self.room = room;
+                Ok(1)
+            }
+            Stage::Bytes(size) => self.take_bytes(size, piece, out),
+            Stage::Tail(first) => {
+                self.stage = after_tail_byte(first, byte);
+                Ok(1)
+            }
+            Stage::Trailer(so_far, left) => {
+                self.stage = after_trailer_byte(so_far, left, byte);
+                Ok(1)
+            }
+            Stage::Done | Stage::Failed(_) => unreachable!(),
+        }
+    }
+
+    /// Reads the next piece, and adds the body's bytes in it to `out`. `done` comes with the body's last
+    /// byte; `taken` tells what belongs to the body in chunks, and the whole piece does until then. An
+    /// error stands for good: it is answered at each later call. What was given out before it stays.
+    pub fn feed(&mut self, piece: &[u8], out: &mut Vec<u8>) -> Result<Fed, ChunkError>
+        // The answer, and the bytes given out, are what the piece says of the body.
+        ensures answers { Answers (reading self.old piece.now) piece.now result out.old.items out.new.items }
+        // What comes behind is read as if all had come at once.
+        ensures goes_on { IfOk result (λ fed. Advances self.old piece.now self.new (drop fed.taken piece.now) out.old.items out.new.items) }
+        // Behind the body nothing is taken, and behind an error it comes again.
+        ensures finished { IfOk result (λ fed. IsTrue fed.done → (bytes : List ℕ) → reading self.new bytes ≡ Whole [] bytes) }
+        ensures failed { IfErr result (λ error. (bytes : List ℕ) → reading self.new bytes ≡ Broken [] error) }
+    {
+        let mut taken = 0;
+        while taken < piece.len() && self.goes_on() {
+            let Ok(n) = self.step(&piece[taken..], out) else {
+                return Err(ChunkError::NoMemory);
+            };
+            taken += n;
+        }
+        match self.stage {
+            Stage::Failed(error) => Err(error),
+            Stage::Done => Ok(Fed { taken, done: true }),
+            _ => Ok(Fed { taken, done: false }),
+        }
+    }
+}
