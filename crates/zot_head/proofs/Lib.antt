@@ -3,4 +3,5 @@ pub mod DigitLemmas
 pub mod FoundLemmas
 pub mod FrontLemmas
 pub mod LineLemmas
+pub mod PieceLemmas
 pub mod ProgressLemmas

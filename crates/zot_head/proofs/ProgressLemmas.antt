@@ -237,13 +237,9 @@ advances-byte old new (b ∷ piece) x y byte some is same out = record {
 
 -- ---- what a call answers
 
-pub stops : (old mid : Progress) (piece rest x y z : List ℕ) → Advances old piece mid rest x y → z ≡ y → Stops (reading old piece) x z
-stops old mid piece rest x y z so_far same = record {
-  given = so_far.given;
-  out = same ∙ so_far.out;
-  next = reading mid (rest ++ []);
-  front = ap (reading old) (sym (append-nil piece)) ∙ so_far.same [];
-}
+pub stops : (old mid : Progress) (piece rest x y z : List ℕ) → Advances old piece mid rest x y → z ≡ y → (more : List ℕ) → Stops (reading old (piece ++ more)) x z
+stops old mid piece rest x y z so_far same more =
+    record { given = so_far.given; out = same ∙ so_far.out; next = reading mid (rest ++ more); front = so_far.same more }
 
 -- what the piece says, where nothing comes behind it
 says : (old new : Progress) (piece rest x y : List ℕ) (next : Body) (on : Advances old piece new rest x y) → reading new rest ≡ next → reading old piece ≡ behind on.given next
@@ -267,13 +263,10 @@ answers-goes old new piece x y fed on all done sound goes =
     rw (says old new piece (drop fed.taken piece) x y (Unfinished []) on e) (done, all, more_out x y on.given on.out)
 
 pub answers-failed : (old new : Progress) (piece rest x y : List ℕ) (error : ChunkError) → Advances old piece new rest x y → new.stage ≡ Failed error
-    → Answers (reading old piece) piece (Err error) x y
-answers-failed old new piece rest x y Bad on is =
-    rw (says old new piece rest x y (Broken [] Bad) on (rw is refl)) (refl, more_out x y on.given on.out)
-answers-failed old new piece rest x y TooLong on is =
-    rw (says old new piece rest x y (Broken [] TooLong) on (rw is refl)) (refl, more_out x y on.given on.out)
-answers-failed old new piece rest x y TooLarge on is =
-    rw (says old new piece rest x y (Broken [] TooLarge) on (rw is refl)) (refl, more_out x y on.given on.out)
+    → Answers old piece (Err error) x y
+answers-failed old new piece rest x y Bad on is = λ more. rw (on.same more, is) (refl, more_out x y on.given on.out)
+answers-failed old new piece rest x y TooLong on is = λ more. rw (on.same more, is) (refl, more_out x y on.given on.out)
+answers-failed old new piece rest x y TooLarge on is = λ more. rw (on.same more, is) (refl, more_out x y on.given on.out)
 answers-failed old new piece rest x y NoMemory on is = stops old new piece rest x y y on refl
 
 -- a stage that is neither the last nor an error

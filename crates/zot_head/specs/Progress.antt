@@ -94,10 +94,10 @@ pub record Stops (body : Body) (before after : List ℕ) : Type 0 where
   pub next : Body
   pub front : body ≡ behind given next
 
--- what a call answers and gives out, where the piece says that of the body
-abbrev pub Answers : Body → List ℕ → Result Fed ChunkError → List ℕ → List ℕ → Type 0
-Answers body piece (Ok fed) before after = AnswersOk body piece fed before after
-Answers body piece (Err NoMemory) before after = Stops body before after
-Answers body piece (Err Bad) before after = AnswersErr body Bad before after
-Answers body piece (Err TooLong) before after = AnswersErr body TooLong before after
-Answers body piece (Err TooLarge) before after = AnswersErr body TooLarge before after
+-- What a call answers and gives out. An error is the one that the piece shows, whatever comes behind it.
+abbrev pub Answers : Progress → List ℕ → Result Fed ChunkError → List ℕ → List ℕ → Type 0
+Answers old piece (Ok fed) before after = AnswersOk (reading old piece) piece fed before after
+Answers old piece (Err NoMemory) before after = (more : List ℕ) → Stops (reading old (piece ++ more)) before after
+Answers old piece (Err Bad) before after = (more : List ℕ) → AnswersErr (reading old (piece ++ more)) Bad before after
+Answers old piece (Err TooLong) before after = (more : List ℕ) → AnswersErr (reading old (piece ++ more)) TooLong before after
+Answers old piece (Err TooLarge) before after = (more : List ℕ) → AnswersErr (reading old (piece ++ more)) TooLarge before after

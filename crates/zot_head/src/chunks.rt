@@ -1,4 +1,5 @@
-ghost use Rattle.std.specs.Prelude.{◌≡◌, ◌↔◌, ℕ, ◌<◌, ◌≤◌, ◌^◌, List, [], length, drop, IfOk, IfErr, OnErr, IsTrue};
+ghost use Rattle.std.specs.Prelude.{◌≡◌, ℕ, ◌<◌, ◌≤◌, ◌^◌, List, [], length, drop, IfOk, IfErr, OnErr, IsTrue};
+ghost use Rattle.std.specs.List.{flat_map};
 
 use crate::after::{after_line_byte, after_tail_byte, after_trailer_byte};
 use crate::chunk_error::ChunkError;
@@ -114,7 +115,7 @@ impl Chunks {
     /// error stands for good: it is answered at each later call. What was given out before it stays.
     pub fn feed(&mut self, piece: &[u8], out: &mut Vec<u8>) -> Result<Fed, ChunkError>
         // The answer, and the bytes given out, are what the piece says of the body.
-        ensures answers { Answers (reading self.old piece.now) piece.now result out.old.items out.new.items }
+        ensures answers { Answers self.old piece.now result out.old.items out.new.items }
         // What comes behind is read as if all had come at once.
         ensures goes_on { IfOk result (λ fed. Advances self.old piece.now self.new (drop fed.taken piece.now) out.old.items out.new.items) }
         // Behind the body nothing is taken, and behind an error it comes again.
@@ -133,5 +134,26 @@ impl Chunks {
             Stage::Done => Ok(Fed { taken, done: true }),
             _ => Ok(Fed { taken, done: false }),
         }
+    }
+
+    /// Reads several pieces, one behind another. It answers and gives out what one call over all of their
+    /// bytes would, however they were cut.
+    pub fn feed_all(&mut self, pieces: &[Vec<u8>], out: &mut Vec<u8>) -> Result<Fed, ChunkError>
+        requires { length (flat_map (λ piece. piece.items) pieces.now) < 2 ^ 64 }
+        ensures answers { Answers self.old (flat_map (λ piece. piece.items) pieces.now) result out.old.items out.new.items }
+        ensures goes_on { IfOk result (λ fed. Advances self.old (flat_map (λ piece. piece.items) pieces.now) self.new
+            (drop fed.taken (flat_map (λ piece. piece.items) pieces.now)) out.old.items out.new.items) }
+    {
+        let mut fed = self.feed(&[], out)?;
+        for piece in pieces {
+            if !fed.done {
+                let next = self.feed(piece.as_slice(), out)?;
+                fed = Fed {
+                    taken: fed.taken + next.taken,
+                    done: next.done,
+                };
+            }
+        }
+        Ok(fed)
     }
 }

@@ -1,0 +1,146 @@
+-- Several pieces of a body in chunks, read one behind another.
+use Rattle.std.proofs.Common.{◌≡◌, ℕ, suc, ◌+◌, ◌<◌, ◌≤◌, Bool, true, false, not, List, [], ◌∷◌, ◌++◌, length, take, drop, get_or, refl, sym, ap, subst, ◌∙◌, arith, append_assoc, Vec, Err}
+use Rattle.std.specs.Prelude.{IsTrue}
+use Rattle.std.specs.List.{flat_map}
+use Rattle.std.proofs.lemmas.List.{length-append, append-nil, drop_all, drop-append-le, take_more, take-append-drop}
+use Rattle.std.proofs.lemmas.Grind.{flat_map-append}
+use Rattle.std.proofs.Math.Seq.{drop-append-add}
+use Rattle.zot_head.specs.declared.chunk_error.ChunkError.{ChunkError}
+use Rattle.zot_head.specs.declared.chunk_error.ChunkError.TheVariants.{Bad, TooLong, TooLarge, NoMemory}
+use Rattle.zot_head.specs.declared.fed.Fed.{Fed}
+use Rattle.zot_head.specs.Chunked.{Body, Whole, Unfinished, Broken, behind}
+use Rattle.zot_head.specs.Progress.{Progress, reading, Advances, Stops, AnswersOk, AnswersErr, Answers}
+use Rattle.zot_head.proofs.ProgressLemmas.{behind-append, advances-piece}
+
+-- these bytes were fed, and that was answered
+pub record IsFed (old new : Progress) (bytes : List ℕ) (fed : Fed) (before after : List ℕ) : Type 0 where
+  pub ok : AnswersOk (reading old bytes) bytes fed before after
+  pub on : Advances old bytes new (drop fed.taken bytes) before after
+  pub finished : IsTrue fed.done → (rest : List ℕ) → reading new rest ≡ Whole [] rest
+
+-- nothing stays where the body isn't done
+all_taken : (body : Body) (bytes : List ℕ) (fed : Fed) (x y : List ℕ) → AnswersOk body bytes fed x y → fed.done ≡ false → fed.taken ≡ length bytes
+all_taken (Whole given rest) bytes fed x y ok e = absurd cc
+all_taken (Unfinished given) bytes fed x y ok e = ok.1
+all_taken (Broken given error) bytes fed x y ok e = absurd ok
+
+none_left : (old new : Progress) (bytes : List ℕ) (fed : Fed) (x y : List ℕ) → IsFed old new bytes fed x y → fed.done ≡ false → drop fed.taken bytes ≡ []
+none_left old new bytes fed x y is e = drop_all fed.taken bytes (omega (arith, all_taken (reading old bytes) bytes fed x y is.ok e))
+
+goes_to : (old new : Progress) (bytes : List ℕ) (fed : Fed) (x y : List ℕ) → IsFed old new bytes fed x y → fed.done ≡ false → Advances old bytes new [] x y
+goes_to old new bytes fed x y is e = subst (λ (r : List ℕ). Advances old bytes new r x y) (none_left old new bytes fed x y is e) is.on
+
+-- more bytes behind a body that is done
+pub fed-behind : (old new : Progress) (bytes piece : List ℕ) (fed : Fed) (x y : List ℕ) → IsFed old new bytes fed x y → fed.done ≡ true → IsFed old new (bytes ++ piece) fed x y
+fed-behind old new bytes piece fed x y is e =
+    let within : fed.taken ≤ length bytes = within_of (reading old bytes) is.ok in
+    let cut : drop fed.taken (bytes ++ piece) ≡ drop fed.taken bytes ++ piece = drop-append-le fed.taken bytes piece within in
+    let says : reading old (bytes ++ piece) ≡ Whole (is.on.given ++ []) (drop fed.taken bytes ++ piece) =
+    is.on.same piece ∙ ap (behind is.on.given) (is.finished e (drop fed.taken bytes ++ piece)) in
+    record {
+      ok = rw says (e, omega (arith, within, length-append bytes piece), sym cut, is.on.out ∙ ap (λ (g : List ℕ). x ++ g) (sym (append-nil is.on.given)));
+      on = record {
+        given = is.on.given;
+        out = is.on.out;
+        same = λ more. rw cut (ap (reading old) (append_assoc bytes piece more) ∙ is.on.same (piece ++ more)
+            ∙ ap (λ (r : List ℕ). behind is.on.given (reading new r)) (sym (append_assoc (drop fed.taken bytes) piece more)));
+      };
+      finished = is.finished;
+    }
+  where
+    within_of : (body : Body) → AnswersOk body bytes fed x y → fed.taken ≤ length bytes
+    within_of (Whole given rest) ok = ok.1
+    within_of (Unfinished given) ok = omega (arith, ok.1)
+    within_of (Broken given error) ok = absurd ok
+
+-- both answers together
+abbrev pub both : Fed → Fed → Fed
+both fed next = record { taken = fed.taken + next.taken; done = next.done }
+
+ok_behind : (body : Body) (given bytes piece : List ℕ) (fed next : Fed) (x y z : List ℕ) → AnswersOk body piece next y z → fed.taken ≡ length bytes → y ≡ x ++ given
+    → AnswersOk (behind given body) (bytes ++ piece) (both fed next) x z
+ok_behind (Whole more rest) given bytes piece fed next x y z ok all out =
+    let cut : drop (fed.taken + next.taken) (bytes ++ piece) ≡ drop next.taken piece = ap (λ (n : ℕ). drop (n + next.taken) (bytes ++ piece)) all ∙ drop-append-add bytes piece next.taken in
+    (ok.0, omega (arith, all, ok.1, length-append bytes piece), ok.2 ∙ sym cut, ok.3 ∙ ap (λ (w : List ℕ). w ++ more) out ∙ append_assoc x given more)
+ok_behind (Unfinished more) given bytes piece fed next x y z ok all out =
+    (ok.0, omega (arith, all, ok.1, length-append bytes piece), ok.2 ∙ ap (λ (w : List ℕ). w ++ more) out ∙ append_assoc x given more)
+ok_behind (Broken more error) given bytes piece fed next x y z ok all out = absurd ok
+
+-- one piece more
+pub fed-then : (old mid new : Progress) (bytes piece : List ℕ) (fed next : Fed) (x y z : List ℕ) → IsFed old mid bytes fed x y → fed.done ≡ false → IsFed mid new piece next y z
+    → IsFed old new (bytes ++ piece) (both fed next) x z
+fed-then old mid new bytes piece fed next x y z is e then =
+    let all : fed.taken ≡ length bytes = all_taken (reading old bytes) bytes fed x y is.ok e in
+    let on = goes_to old mid bytes fed x y is e in
+    let cut : drop (fed.taken + next.taken) (bytes ++ piece) ≡ drop next.taken piece = ap (λ (n : ℕ). drop (n + next.taken) (bytes ++ piece)) all ∙ drop-append-add bytes piece next.taken in
+    record {
+      ok = rw (on.same piece) (ok_behind (reading mid piece) on.given bytes piece fed next x y z then.ok all on.out);
+      on = rw cut (advances-piece old mid new bytes piece (drop next.taken piece) x y z on then.on);
+      finished = then.finished;
+    }
+
+err_behind : (body : Body) (given : List ℕ) (error : ChunkError) (x y z : List ℕ) → AnswersErr body error y z → y ≡ x ++ given → AnswersErr (behind given body) error x z
+err_behind (Whole more rest) given error x y z h out = h
+err_behind (Unfinished more) given error x y z h out = h
+err_behind (Broken more broken) given error x y z h out = (h.0, h.1 ∙ ap (λ (w : List ℕ). w ++ more) out ∙ append_assoc x given more)
+
+-- where a body was read so far, bytes behind are read from there
+regroup : (old mid : Progress) (bytes piece others more x y : List ℕ) (on : Advances old bytes mid [] x y)
+    → reading old (((bytes ++ piece) ++ others) ++ more) ≡ behind on.given (reading mid (piece ++ (others ++ more)))
+regroup old mid bytes piece others more x y on =
+    ap (reading old) (append_assoc (bytes ++ piece) others more ∙ append_assoc bytes piece (others ++ more)) ∙ on.same (piece ++ (others ++ more))
+
+-- an error of one piece more is that of all
+pub failed-then : (old mid : Progress) (bytes piece others : List ℕ) (fed : Fed) (error : ChunkError) (x y z : List ℕ) → IsFed old mid bytes fed x y → fed.done ≡ false
+    → Answers mid piece (Err error) y z → Answers old ((bytes ++ piece) ++ others) (Err error) x z
+failed-then old mid bytes piece others fed Bad x y z is e err =
+    let on = goes_to old mid bytes fed x y is e in
+    λ more. rw (regroup old mid bytes piece others more x y on) (err_behind (reading mid (piece ++ (others ++ more))) on.given Bad x y z (err (others ++ more)) on.out)
+failed-then old mid bytes piece others fed TooLong x y z is e err =
+    let on = goes_to old mid bytes fed x y is e in
+    λ more. rw (regroup old mid bytes piece others more x y on) (err_behind (reading mid (piece ++ (others ++ more))) on.given TooLong x y z (err (others ++ more)) on.out)
+failed-then old mid bytes piece others fed TooLarge x y z is e err =
+    let on = goes_to old mid bytes fed x y is e in
+    λ more. rw (regroup old mid bytes piece others more x y on) (err_behind (reading mid (piece ++ (others ++ more))) on.given TooLarge x y z (err (others ++ more)) on.out)
+failed-then old mid bytes piece others fed NoMemory x y z is e err =
+    let on = goes_to old mid bytes fed x y is e in
+    λ more.
+    let stop = err (others ++ more) in
+    record {
+      given = on.given ++ stop.given;
+      out = stop.out ∙ ap (λ (w : List ℕ). w ++ stop.given) on.out ∙ append_assoc x on.given stop.given;
+      next = stop.next;
+      front = regroup old mid bytes piece others more x y on ∙ ap (behind on.given) stop.front ∙ sym (behind-append on.given stop.given stop.next);
+    }
+
+-- ---- the pieces, joined
+
+module _ {X : Type 0} (f : X → List ℕ) (xs : List X) (i : ℕ) (x : X) (within : i < length xs) (is : x ≡ get_or xs i x) where
+  pub pieces-more : flat_map f (take (i + 1) xs) ≡ flat_map f (take i xs) ++ f x
+  pieces-more =
+      ap (flat_map f) (take_more xs i x within ∙ ap (λ (y : X). take i xs ++ y ∷ []) (sym is))
+      ∙ flat_map-append f (take i xs) (x ∷ []) ∙ ap (λ (y : List ℕ). flat_map f (take i xs) ++ y) (append-nil (f x))
+
+  pub pieces-split : flat_map f xs ≡ (flat_map f (take i xs) ++ f x) ++ flat_map f (drop (i + 1) xs)
+  pieces-split =
+      ap (flat_map f) (sym (take-append-drop (i + 1) xs)) ∙ flat_map-append f (take (i + 1) xs) (drop (i + 1) xs)
+      ∙ ap (λ (y : List ℕ). y ++ flat_map f (drop (i + 1) xs)) pieces-more
+
+-- both counts together are at most the bytes of all pieces
+pub both_within : (old mid : Progress) (bytes piece others : List ℕ) (fed next : Fed) (x y z : List ℕ) → IsFed old mid bytes fed x y → fed.done ≡ false → AnswersOk (reading mid piece) piece next y z
+    → fed.taken + next.taken ≤ length ((bytes ++ piece) ++ others)
+both_within old mid bytes piece others fed next x y z is e ok =
+    omega (arith, all_taken (reading old bytes) bytes fed x y is.ok e, within_of (reading mid piece) ok, length-append (bytes ++ piece) others, length-append bytes piece)
+  where
+    within_of : (body : Body) → AnswersOk body piece next y z → next.taken ≤ length piece
+    within_of (Whole given rest) ok = ok.1
+    within_of (Unfinished given) ok = omega (arith, ok.1)
+    within_of (Broken given error) ok = absurd ok
+
+pub false_from_not : (b : Bool) → not b ≡ true → b ≡ false
+false_from_not true e = absurd cc
+false_from_not false e = refl
+
+pub true_from_not : (b : Bool) → not b ≡ false → b ≡ true
+true_from_not true e = refl
+true_from_not false e = absurd cc
