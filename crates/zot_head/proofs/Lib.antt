@@ -5,3 +5,4 @@ pub mod FrontLemmas
 pub mod LineLemmas
 pub mod PieceLemmas
 pub mod ProgressLemmas
+pub mod RuleLemmas

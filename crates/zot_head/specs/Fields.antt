@@ -1,7 +1,7 @@
 -- What a head's fields say of its body and its connection (RFC 9112, sections 6 and 9). Names and the
 -- words of values are compared without regard to case.
 use Rattle.std.specs.Prelude.{ℕ, Bool, true, false, ◌&&◌, ◌||◌, List, [], ◌∷◌, length, map, filter, if◌then◌else◌, ◌==◌, nat_lt, nat_le, Option, Some, None, codes}
-use Rattle.std.specs.List.{list_any, list_all}
+use Rattle.std.specs.List.{list_any, list_all, slice_split}
 use Rattle.std.specs.Str.{bytes_eq}
 use Rattle.std.specs.Str.Parse.{digits_value}
 use Rattle.std.specs.Char.{is_ascii_digit, to_ascii_lowercase}
@@ -49,32 +49,26 @@ has_body framings.None = false
 has_body (framings.Length n) = nat_lt 0 n
 has_body framings.Chunked = true
 
--- some field asks for a `100 Continue` (RFC 9110, section 10.1.1)
-unfoldable pub asks_continue : List Field → Bool
-asks_continue fields = list_any (is_word (codes "100-continue")) (values_of (codes "expect") fields)
+-- whether a field asks for a `100 Continue` (RFC 9110, section 10.1.1)
+unfoldable pub is_expectation : Field → Bool
+is_expectation f = is_word (codes "expect") f.name && is_word (codes "100-continue") f.value
 
 -- whether a `100 Continue` is owed before the body is read, at that minor version
 abbrev pub expects_of : ℕ → List Field → Framing → Bool
-expects_of minor fields framing = minor == 1 && has_body framing && asks_continue fields
+expects_of minor fields framing = minor == 1 && has_body framing && list_any is_expectation fields
 
--- a byte in front of the first piece
-abbrev pub into_first : ℕ → List (List ℕ) → List (List ℕ)
-into_first b [] = (b ∷ []) ∷ []
-into_first b (piece ∷ pieces) = (b ∷ piece) ∷ pieces
+-- the word that asks to close the connection
+unfoldable pub close_word : List ℕ
+close_word = codes "close"
 
--- the pieces between the commas of a value
-abbrev pub pieces_of : List ℕ → List (List ℕ)
-pieces_of [] = [] ∷ []
-pieces_of (b ∷ bytes) = if b == comma then [] ∷ pieces_of bytes else into_first b (pieces_of bytes)
-
--- whether a value of `Connection` has the piece `close`, without the spaces and tabs at its ends
+-- whether a value of `Connection` has `close` between two commas, but for spaces and tabs around it
 abbrev pub lists_close : List ℕ → Bool
-lists_close value = list_any (λ piece. is_word (codes "close") (trim_ows piece)) (pieces_of value)
+lists_close value = list_any (λ piece. is_word close_word (trim_ows piece)) (slice_split (λ b. b == comma) value)
 
--- some field asks to close the connection (RFC 9112, section 9.6)
-unfoldable pub asks_close : List Field → Bool
-asks_close fields = list_any lists_close (values_of (codes "connection") fields)
+-- whether a field asks to close the connection (RFC 9112, section 9.6)
+unfoldable pub is_close : Field → Bool
+is_close f = is_word (codes "connection") f.name && lists_close f.value
 
 -- whether the connection closes behind a request of that minor version
 abbrev pub closes_of : ℕ → List Field → Bool
-closes_of minor fields = minor == 0 || asks_close fields
+closes_of minor fields = minor == 0 || list_any is_close fields

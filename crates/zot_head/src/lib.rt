@@ -15,7 +15,9 @@ mod head;
 mod laws;
 mod lines;
 mod pending;
+mod rules;
 mod stage;
+mod word;
 
 pub use crate::chunk_error::ChunkError;
 pub use crate::chunks::Chunks;
