@@ -4,5 +4,7 @@ pub mod FoundLemmas
 pub mod FrontLemmas
 pub mod LineLemmas
 pub mod PieceLemmas
+pub mod PrintLemmas
 pub mod ProgressLemmas
+pub mod ReadLemmas
 pub mod RuleLemmas

@@ -213,7 +213,7 @@ extent_within part_end limit n a is h =
 abbrev at : List ℕ → ℕ → ℕ
 at bytes i = get_or bytes i 0
 
-blank_len_feed : (b : ℕ) (rest : List ℕ) → b ≡ 10 → blank_len (b ∷ rest) ≡ suc (blank_len rest)
+pub blank_len_feed : (b : ℕ) (rest : List ℕ) → b ≡ 10 → blank_len (b ∷ rest) ≡ suc (blank_len rest)
 blank_len_feed b [] e = rw e refl
 blank_len_feed b (c ∷ rest) e = rw e refl
 
@@ -221,7 +221,7 @@ blank_len_return : (b : ℕ) (rest : List ℕ) → b ≡ 13 → begins_feed rest
 blank_len_return b [] e f = absurd cc
 blank_len_return b (c ∷ rest) e f = rw (e, f) refl
 
-blank_len_none : (b : ℕ) (rest : List ℕ) → b ≢ 10 → (b ≢ 13) ⊎ (begins_feed rest ≡ false) → blank_len (b ∷ rest) ≡ 0
+pub blank_len_none : (b : ℕ) (rest : List ℕ) → b ≢ 10 → (b ≢ 13) ⊎ (begins_feed rest ≡ false) → blank_len (b ∷ rest) ≡ 0
 blank_len_none b [] n o = let e : eqb b 10 ≡ false = grind (arith, nat_tests) in rw e refl
 blank_len_none b (c ∷ rest) n o =
     let e : eqb b 10 ≡ false = grind (arith, nat_tests) in

@@ -5,3 +5,4 @@ pub mod Front
 pub mod Limits
 pub mod Lines
 pub mod Progress
+pub mod Spans
