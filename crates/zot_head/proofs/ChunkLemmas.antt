@@ -1,15 +1,14 @@
 -- A body in chunks: one chunk after another, with no count of chunks, and that a whole or a broken body
 -- stays what it is with more bytes behind.
-use Rattle.std.proofs.Common.{◌≡◌, ◌⊎◌, ℕ, zero, suc, ◌+◌, ◌-◌, ◌<◌, ◌≤◌, Bool, true, false, ◌&&◌, cond, eqb, leb, ltb, List, [], ◌∷◌, ◌++◌, length, take, drop, refl, sym, ap, subst, ◌∙◌, arith, inl, inr, Option, Some, None, append_assoc}
-use Rattle.std.proofs.lemmas.List.{length-append, length-take, length-drop, take_all, take-append-le, drop-append-le, drop-drop}
-use Rattle.std.proofs.lemmas.Bool.{cases_lt, ltb-false}
+use Rattle.std.proofs.Common.{◌≡◌, ℕ, zero, suc, ◌+◌, ◌-◌, ◌<◌, ◌≤◌, Bool, true, false, ◌&&◌, cond, eqb, ltb, List, [], ◌∷◌, ◌++◌, length, take, drop, refl, sym, ap, ◌∙◌, arith, inl, inr, Option, Some, None}
+use Rattle.std.proofs.lemmas.List.{length-append, length-drop, take-append-le, drop-append-le, drop-drop}
+use Rattle.std.proofs.lemmas.Bool.{cases_lt}
 use Rattle.std.proofs.lemmas.Bool.Decides.{nat_tests}
-use Rattle.zot_head.specs.declared.chunk_error.ChunkError.{ChunkError}
-use Rattle.zot_head.specs.declared.chunk_error.ChunkError.TheVariants.{Bad, TooLong, TooLarge}
+use Rattle.zot_head.specs.declared.chunk_error.ChunkError.TheVariants.{Bad, TooLarge}
 use Rattle.zot_head.specs.Limits.{chunk_line_limit, trailer_limit}
-use Rattle.zot_head.specs.Lines.{line_end, section_end, Extent, Ends, Passes, Goes, extent_of, extent}
+use Rattle.zot_head.specs.Lines.{line_end, section_end, Extent, Ends, Passes, Goes, extent}
 use Rattle.zot_head.specs.Chunked.{size_of, Body, Whole, Unfinished, Broken, behind, from_trailer, from_tail, from_bytes, from_size, from_line, chunks, chunked}
-use Rattle.zot_head.proofs.LineLemmas.{chosen, line_end_is, section_end_is, IsSettled, extent_stays, extent_within}
+use Rattle.zot_head.proofs.LineLemmas.{line_end_is, section_end_is, IsSettled, extent_stays, extent_within}
 
 -- ---- the count of chunks doesn't matter
 

@@ -1,8 +1,8 @@
 -- A part of a message, looked for in the first bytes alone.
-use Rattle.std.proofs.Common.{◌≡◌, ℕ, ◌<◌, ◌≤◌, Bool, true, false, List, length, take, min, refl, sym, ap, ◌∙◌, arith, leb, Option, Some, None}
+use Rattle.std.proofs.Common.{◌≡◌, ℕ, ◌<◌, ◌≤◌, true, false, List, length, take, min, refl, arith, leb, Option, Some, None}
 use Rattle.std.proofs.lemmas.List.{take_min}
 use Rattle.std.proofs.lemmas.Bool.Decides.{nat_tests}
-use Rattle.zot_head.specs.Lines.{Extent, Ends, Passes, Goes, extent_of, extent}
+use Rattle.zot_head.specs.Lines.{Ends, Passes, Goes, extent}
 
 module _ (part_end : List ℕ → Option ℕ) (limit k : ℕ) (bytes : List ℕ) (least : k ≡ min (length bytes) limit) where
   window : take k bytes ≡ take limit bytes

@@ -1,8 +1,7 @@
 -- The laws of what stands at the front: it is determined, it stays with more bytes behind, and a whole
 -- message takes some of the bytes.
-use Rattle.std.proofs.Common.{◌≡◌, ℕ, ◌+◌, ◌<◌, ◌≤◌, Bool, true, false, cond, ltb, List, [], ◌∷◌, ◌++◌, length, map, take, drop, refl, sym, ap, subst, ◌∙◌, arith, inl, inr, Option, Some, None}
+use Rattle.std.proofs.Common.{◌≡◌, ℕ, ◌+◌, ◌<◌, ◌≤◌, Bool, true, false, cond, ltb, List, [], ◌++◌, length, take, drop, refl, sym, ap, subst, ◌∙◌, arith}
 use Rattle.std.proofs.lemmas.List.{length-append, length-drop, take-append-le, drop-append-le, drop-drop}
-use Rattle.std.proofs.lemmas.Bool.{cases_lt}
 use Rattle.std.proofs.lemmas.Bool.Decides.{nat_tests}
 use Rattle.httparse.specs.Grammar.{RequestHead}
 use Rattle.httparse.proofs.GrammarLemmas.{request_unique}
@@ -10,8 +9,8 @@ use Rattle.zot_head.specs.declared.framing.Framing.{Framing}
 use Rattle.zot_head.specs.declared.framing.Framing.TheVariants as framings
 use Rattle.zot_head.specs.declared.head.Head.{Head}
 use Rattle.zot_head.specs.Chunked.{Body, Whole, Unfinished, Broken, chunked}
-use Rattle.zot_head.specs.Fields.{framing_of, expects_of, closes_of}
-use Rattle.zot_head.specs.Front.{field_of, HasParts, IsHead, IsNoHead, Refusal, HeadInvalid, SizeInvalid, HeadTooLong, Front, Message, Refused, Partial, refusal_of, with_chunks, with_body, IsMessage, crowded, invalid, headed, IsFrontBy, IsFront, IsDecided, with_more, IsRestOf}
+use Rattle.zot_head.specs.Fields.{framing_of}
+use Rattle.zot_head.specs.Front.{HasParts, IsHead, SizeInvalid, Front, Message, Refused, Partial, with_chunks, with_body, IsMessage, crowded, invalid, headed, IsFrontBy, IsFront, IsDecided, with_more, IsRestOf}
 use Rattle.zot_head.specs.Limits.{head_limit}
 use Rattle.zot_head.specs.Lines.{head_end, Extent, Ends, Passes, Goes, extent}
 use Rattle.zot_head.proofs.LineLemmas.{head_end_is, IsSettled, extent_stays, extent_within}

@@ -1,5 +1,5 @@
 -- Several pieces of a body in chunks, read one behind another.
-use Rattle.std.proofs.Common.{◌≡◌, ℕ, suc, ◌+◌, ◌<◌, ◌≤◌, Bool, true, false, not, List, [], ◌∷◌, ◌++◌, length, take, drop, get_or, refl, sym, ap, subst, ◌∙◌, arith, append_assoc, Vec, Err}
+use Rattle.std.proofs.Common.{◌≡◌, ℕ, ◌+◌, ◌<◌, ◌≤◌, Bool, true, false, not, List, [], ◌∷◌, ◌++◌, length, take, drop, get_or, refl, sym, ap, subst, ◌∙◌, arith, append_assoc, Err}
 use Rattle.std.specs.Prelude.{IsTrue}
 use Rattle.std.specs.List.{flat_map}
 use Rattle.std.proofs.lemmas.List.{length-append, append-nil, drop_all, drop-append-le, take_more, take-append-drop}
@@ -9,7 +9,7 @@ use Rattle.zot_head.specs.declared.chunk_error.ChunkError.{ChunkError}
 use Rattle.zot_head.specs.declared.chunk_error.ChunkError.TheVariants.{Bad, TooLong, TooLarge, NoMemory}
 use Rattle.zot_head.specs.declared.fed.Fed.{Fed}
 use Rattle.zot_head.specs.Chunked.{Body, Whole, Unfinished, Broken, behind}
-use Rattle.zot_head.specs.Progress.{Progress, reading, Advances, Stops, AnswersOk, AnswersErr, Answers}
+use Rattle.zot_head.specs.Progress.{Progress, reading, Advances, AnswersOk, AnswersErr, Answers}
 use Rattle.zot_head.proofs.ProgressLemmas.{behind-append, advances-piece}
 
 -- these bytes were fed, and that was answered

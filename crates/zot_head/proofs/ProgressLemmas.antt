@@ -1,7 +1,7 @@
 -- A body in chunks, one byte or some bytes of a chunk on.
-use Rattle.std.proofs.Common.{◌≡◌, ◌≢◌, ◌⊎◌, ℕ, zero, suc, ◌+◌, ◌-◌, ◌<◌, ◌≤◌, Bool, true, false, ◌&&◌, cond, eqb, leb, ltb, List, [], ◌∷◌, ◌++◌, length, take, drop, get_or, refl, sym, ap, ◌∙◌, arith, inl, inr, Option, Some, None, append_assoc}
+use Rattle.std.proofs.Common.{◌≡◌, ◌≢◌, ◌⊎◌, ℕ, zero, suc, ◌+◌, ◌-◌, ◌<◌, ◌≤◌, Bool, true, false, cond, eqb, leb, ltb, List, [], ◌∷◌, ◌++◌, length, take, drop, get_or, refl, sym, ap, ◌∙◌, arith, inl, inr, Option, Some, None, append_assoc}
 use Rattle.std.specs.Prelude.{option_map, Err}
-use Rattle.std.proofs.lemmas.List.{length-append, length-take, length-drop, take_all, take_at, drop_at, append-nil, take-append-drop, drop_all}
+use Rattle.std.proofs.lemmas.List.{length-append, length-take, take_all, take_at, drop_at, append-nil, take-append-drop, drop_all}
 use Rattle.std.proofs.lemmas.Bool.Decides.{nat_tests}
 use Rattle.std.proofs.Math.Seq.{take-append-add, drop-append-add}
 use Rattle.zot_head.specs.declared.chunk_error.ChunkError.{ChunkError}
@@ -11,10 +11,10 @@ use Rattle.zot_head.specs.declared.stage.LineSoFar.{LineSoFar}
 use Rattle.zot_head.specs.declared.stage.LineSoFar.TheVariants.{Start, Return, Inside}
 use Rattle.zot_head.specs.declared.stage.Stage.{Stage}
 use Rattle.zot_head.specs.declared.stage.Stage.TheVariants.{Line, Bytes, Tail, Trailer, Done, Failed}
-use Rattle.zot_head.specs.Chunked.{size_of, Body, Whole, Unfinished, Broken, behind, from_trailer, from_tail, from_bytes, from_size, from_line, chunked}
+use Rattle.zot_head.specs.Chunked.{size_of, Body, Whole, Unfinished, Broken, behind, from_trailer, from_tail, from_bytes, from_size, chunked}
 use Rattle.zot_head.specs.Limits.{chunk_line_limit, trailer_limit}
-use Rattle.zot_head.specs.Lines.{line_end, section_end, Extent, Ends, Passes, Goes, extent_of, extent}
-use Rattle.zot_head.specs.Progress.{return_end, trailer_end, trailer_end_after, Progress, reading_at, reading, IsSound, goes_on, Advances, Stops, AnswersOk, Answers}
+use Rattle.zot_head.specs.Lines.{line_end, Ends, Passes, Goes, extent_of, extent}
+use Rattle.zot_head.specs.Progress.{trailer_end, Progress, reading_at, reading, IsSound, goes_on, Advances, Stops, AnswersOk, Answers}
 use Rattle.zot_head.proofs.LineLemmas.{chosen}
 use Rattle.zot_head.proofs.ChunkLemmas.{chunked_is}
 

@@ -1,5 +1,5 @@
 -- A body in chunks (RFC 9112, section 7.1): chunks, the last of size 0, and a trailer section.
-use Rattle.std.specs.Prelude.{ℕ, zero, suc, ◌+◌, ◌-◌, Bool, true, false, ◌&&◌, ◌||◌, List, [], ◌∷◌, ◌++◌, length, take, drop, if◌then◌else◌, ◌==◌, nat_lt, nat_le, Option, Some, None, take_while}
+use Rattle.std.specs.Prelude.{ℕ, zero, suc, ◌-◌, Bool, true, false, ◌&&◌, ◌||◌, List, [], ◌∷◌, ◌++◌, length, take, drop, if◌then◌else◌, ◌==◌, nat_lt, nat_le, Option, Some, None, take_while}
 use Rattle.std.specs.Char.{is_ascii_hexdigit}
 use Rattle.std.specs.Str.Parse.{digits_value}
 use Rattle.httparse.specs.Ascii.{tab, line_feed, carriage_return, semicolon}

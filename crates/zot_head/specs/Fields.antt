@@ -1,6 +1,6 @@
 -- What a head's fields say of its body and its connection (RFC 9112, sections 6 and 9). Names and the
 -- words of values are compared without regard to case.
-use Rattle.std.specs.Prelude.{ℕ, Bool, true, false, ◌&&◌, ◌||◌, List, [], ◌∷◌, length, map, filter, if◌then◌else◌, ◌==◌, nat_lt, nat_le, Option, Some, None, codes}
+use Rattle.std.specs.Prelude.{ℕ, Bool, true, false, ◌&&◌, ◌||◌, List, [], ◌∷◌, length, map, if◌then◌else◌, ◌==◌, nat_lt, nat_le, Option, Some, None, codes}
 use Rattle.std.specs.List.{list_any, list_all, slice_split}
 use Rattle.std.specs.Str.{bytes_eq}
 use Rattle.std.specs.Str.Parse.{digits_value}

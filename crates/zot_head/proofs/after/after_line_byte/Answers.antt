@@ -1,6 +1,6 @@
-use Rattle.std.proofs.Common.{◌≡◌, suc, List, ℕ, length, [], ◌∷◌, ◌++◌, refl, sym, ap, ◌∙◌, arith}
+use Rattle.std.proofs.Common.{◌≡◌, suc, ℕ, length, [], ◌∷◌, ◌++◌, sym, ap, ◌∙◌, arith}
 use Rattle.std.proofs.lemmas.List.{length-append}
-use Rattle.zot_head.specs.Chunked.{size_of, from_size, chunked}
+use Rattle.zot_head.specs.Chunked.{size_of}
 use Rattle.zot_head.specs.Limits.{chunk_line_limit}
 use Rattle.zot_head.proofs.ProgressLemmas.{chunked-feed, chunked-passes, line_more}
 use Rattle.zot_head.proofs.after.after_line_byte.Goals as goal

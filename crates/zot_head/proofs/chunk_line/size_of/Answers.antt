@@ -1,4 +1,4 @@
-use Rattle.std.proofs.Common.{sym, ◌∙◌, arith}
+use Rattle.std.proofs.Common.{sym, ◌∙◌}
 use Rattle.zot_head.proofs.DigitLemmas.{digits_small, digits_fit, size_of_some, size_of_empty, size_of_long, size_of_other}
 use Rattle.zot_head.proofs.chunk_line.size_of.Goals as goal
 use Rattle.zot_head.proofs.chunk_line.size_of.Goals.{then-len-eq0-via-then-len-eq0, then-len-eq0-via-else-len-eq0+then-len-gt-MAX_DIGITS, then-len-eq0-via-else-len-eq0+else-len-gt-MAX_DIGITS+then-not-ends_size}

@@ -1,4 +1,4 @@
-use Rattle.std.proofs.Common.{◌<◌, ◌≤◌, ◌^◌, ◌+◌, arith}
+use Rattle.std.proofs.Common.{◌+◌, arith}
 use Rattle.std.proofs.lemmas.Int.Digits.{digits_value_more}
 use Rattle.zot_head.proofs.DigitLemmas.{digit_more, power_below}
 use Rattle.zot_head.proofs.digits.digits_value.Goals as goal

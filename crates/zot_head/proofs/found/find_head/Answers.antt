@@ -1,4 +1,4 @@
-use Rattle.std.proofs.Common.{◌≡◌, ℕ, ap, sym, arith}
+use Rattle.std.proofs.Common.{◌≡◌, ap, sym, arith}
 use Rattle.zot_head.specs.Found.{found_of}
 use Rattle.zot_head.specs.Limits.{head_limit}
 use Rattle.zot_head.specs.Lines.{head_end}

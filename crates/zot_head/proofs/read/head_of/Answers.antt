@@ -1,4 +1,4 @@
-use Rattle.std.proofs.Common.{◌≡◌, ℕ, List, map, take, Some, None, sym, ap, ◌∙◌}
+use Rattle.std.proofs.Common.{◌≡◌, ℕ, List, map, sym, ap, ◌∙◌}
 use Rattle.zot_head.specs.declared.field.Field.{Field}
 use Rattle.zot_head.specs.Front.{field_of}
 use Rattle.zot_head.specs.Fields.{framing_of, expects_of, closes_of}

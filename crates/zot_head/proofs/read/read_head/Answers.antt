@@ -1,8 +1,6 @@
-use Rattle.std.proofs.Common.{◌≡◌, ℕ, List, arith}
 use Rattle.std.proofs.lemmas.Result.{IfOk-weaker}
 use Rattle.httparse.specs.Grammar.{RequestHead}
 use Rattle.httparse.specs.Spans.{IsRequestAt}
-use Rattle.zot_head.specs.declared.head.Head.{Head}
 use Rattle.zot_head.specs.Front.{HasParts, IsHead}
 use Rattle.zot_head.proofs.ReadLemmas.{not_crowded, is_head, is_no_head, no_head-short, no_head-overflow}
 use Rattle.zot_head.proofs.read.read_head.Goals as goal

@@ -1,4 +1,4 @@
-use Rattle.std.proofs.Common.{◌≡◌, ℕ, length, ap, sym, subst, ◌∙◌, refl, arith}
+use Rattle.std.proofs.Common.{◌≡◌, length, ap, sym, subst, ◌∙◌, refl, arith}
 use Rattle.zot_head.specs.Progress.{Progress, IsSound}
 use Rattle.zot_head.proofs.ProgressLemmas.{stops, GoesOn, answers-done, answers-goes, answers-failed, goes-otherwise, goes-not-over}
 use Rattle.zot_head.proofs.chunks.Chunks.feed.Goals as goal

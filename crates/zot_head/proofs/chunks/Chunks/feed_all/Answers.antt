@@ -1,4 +1,4 @@
-use Rattle.std.proofs.Common.{◌≡◌, ℕ, ◌+◌, List, length, take, drop, ap, sym, subst, arith, Vec, Global, Err}
+use Rattle.std.proofs.Common.{ℕ, ◌+◌, List, length, take, drop, ap, sym, subst, arith, Vec, Global, Err}
 use Rattle.std.specs.List.{flat_map}
 use Rattle.std.proofs.lemmas.Result.{err_from_is_err_and}
 use Rattle.zot_head.specs.Progress.{Answers, AnswersOk, reading}

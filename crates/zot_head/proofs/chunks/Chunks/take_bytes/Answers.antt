@@ -1,4 +1,4 @@
-use Rattle.std.proofs.Common.{ℕ, ap, sym, inl, inr, arith, rules}
+use Rattle.std.proofs.Common.{ap, inl, inr, arith, rules}
 use Rattle.zot_head.specs.Progress.{Progress}
 use Rattle.zot_head.proofs.ProgressLemmas.{advances-bytes}
 use Rattle.zot_head.proofs.chunks.Chunks.take_bytes.Goals as goal
