@@ -116,6 +116,7 @@ impl Chunks {
     pub fn feed(&mut self, piece: &[u8], out: &mut Vec<u8>) -> Result<Fed, ChunkError>
         // The answer, and the bytes given out, are what the piece says of the body.
         ensures answers { Answers self.old piece.now result out.old.items out.new.items }
+        ensures within { IfOk result (λ fed. fed.taken ≤ length piece.now) }
         // What comes behind is read as if all had come at once.
         ensures goes_on { IfOk result (λ fed. Advances self.old piece.now self.new (drop fed.taken piece.now) out.old.items out.new.items) }
         // Behind the body nothing is taken, and behind an error it comes again.
@@ -143,6 +144,8 @@ impl Chunks {
         ensures answers { Answers self.old (flat_map (λ piece. piece.items) pieces.now) result out.old.items out.new.items }
         ensures goes_on { IfOk result (λ fed. Advances self.old (flat_map (λ piece. piece.items) pieces.now) self.new
             (drop fed.taken (flat_map (λ piece. piece.items) pieces.now)) out.old.items out.new.items) }
+        ensures finished { IfOk result (λ fed. IsTrue fed.done → (bytes : List ℕ) → reading self.new bytes ≡ Whole [] bytes) }
+        ensures failed { IfErr result (λ error. (bytes : List ℕ) → reading self.new bytes ≡ Broken [] error) }
     {
         let mut fed = self.feed(&[], out)?;
         for piece in pieces {

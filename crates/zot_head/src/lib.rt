@@ -19,6 +19,8 @@ mod pending;
 mod read;
 mod rules;
 mod stage;
+#[cfg(test)]
+mod tests;
 mod word;
 
 pub use crate::chunk_error::ChunkError;
@@ -31,3 +33,4 @@ pub use crate::framing::Framing;
 pub use crate::head::Head;
 pub use crate::head_error::HeadError;
 pub use crate::laws::{front_is_one, front_stays, message_takes};
+pub use crate::read::read_head;

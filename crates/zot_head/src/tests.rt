@@ -1,0 +1,4 @@
+//! Worked heads and bodies.
+mod bodies;
+mod fronts;
+mod heads;
