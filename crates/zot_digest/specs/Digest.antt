@@ -15,6 +15,10 @@ pub record IsDigest (digest : List ℕ) : Type 0 where
 abbrev pub IsSound : List ℕ → List ℕ → Type 0
 IsSound digest bytes = digest ≡ sha256 bytes
 
+-- the same as a test
+abbrev pub is_sound : List ℕ → List ℕ → Bool
+is_sound digest bytes = bytes_eq digest (sha256 bytes)
+
 -- the algorithm's name and a colon
 abbrev pub algorithm : List ℕ
 algorithm = codes "sha256:"

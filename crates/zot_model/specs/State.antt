@@ -1,0 +1,46 @@
+-- The state of a plain registry: its repositories and what each holds.
+use Rattle.std.specs.Prelude.{◌≡◌, ◌≢◌, ℕ, Bool, false, List, unwrap_or, refl}
+use Rattle.std.specs.Coded.{Coded, code_by, coded×, coded_bool, coded_list, coded_ℕ}
+use Rattle.std.specs.FinMap as map
+use Rattle.zot_digest.specs.ByteMap.{ByteMap}
+use Rattle.zot_model.specs.declared.stored.Stored.{Stored}
+
+-- a repository: whether it is known, and its blobs by their digests
+pub record RepoState : Type 0 where
+  pub known : Bool
+  pub blobs : ByteMap Stored
+
+-- a table of repositories by their names, and how many storage faults it had
+pub record RowState : Type 0 where
+  pub repos : ByteMap RepoState
+  pub faults : ℕ
+
+-- a repository that nobody has stored anything in
+abbrev pub fresh : RepoState
+fresh = record { known = false; blobs = map.empty }
+
+-- the repository of a name, which is a fresh one where the table has none
+abbrev pub repo_at : RowState → List ℕ → RepoState
+repo_at row name = unwrap_or (map.get row.repos name) fresh
+
+-- the table with no repository
+abbrev pub empty_row : RowState
+empty_row = record { repos = map.empty; faults = 0 }
+
+-- the new table has this repository under the name, and every other name's repository as before
+pub record Becomes (old : RowState) (name : List ℕ) (repo : RepoState) (new : RowState) : Type 0 where
+  pub here : repo_at new name ≡ repo
+  pub others : (other : List ℕ) → other ≢ name → repo_at new other ≡ repo_at old other
+  pub faults : new.faults ≡ old.faults
+
+-- a stored blob is coded as its bytes and its moment
+abbrev pub stored_code : Coded Stored
+stored_code = code_by (List ℕ × ℕ) (coded× (coded_list coded_ℕ) coded_ℕ) (λ s. (s.bytes, s.arrived)) (λ p. record { bytes = p.0; arrived = p.1 }) (λ _. refl)
+
+-- a repository is coded as its two parts
+abbrev pub repo_code : Coded RepoState
+repo_code = code_by (Bool × ByteMap Stored) (coded× coded_bool (map.code (coded_list coded_ℕ) stored_code)) (λ r. (r.known, r.blobs)) (λ p. record { known = p.0; blobs = p.1 }) (λ _. refl)
+
+-- a table is coded as its two parts
+abbrev pub row_code : Coded RowState
+row_code = code_by (ByteMap RepoState × ℕ) (coded× (map.code (coded_list coded_ℕ) repo_code) coded_ℕ) (λ r. (r.repos, r.faults)) (λ p. record { repos = p.0; faults = p.1 }) (λ _. refl)

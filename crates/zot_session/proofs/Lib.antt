@@ -1,0 +1,7 @@
+mod FakeLemmas
+mod HeadLemmas
+pub mod FrontLemmas
+mod InboxLemmas
+pub mod OutsideLemmas
+mod TurnLemmas
+pub mod SessionLemmas

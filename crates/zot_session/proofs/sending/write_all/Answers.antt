@@ -1,0 +1,14 @@
+use Rattle.std.proofs.Common.{◌≡◌, ℕ, List, ◌++◌, take, ◌∙◌, sym}
+use Rattle.zot_session.proofs.OutsideLemmas.{Appends-append, written_more}
+use Rattle.zot_session.proofs.sending.write_all.Goals as goal
+
+pub loop-rest-preserved : goal.loop-rest-preserved
+loop-rest-preserved g c =
+    let i = c.loop-rest.invariant in
+    let w = c.in_ok-n.ensures.ok in
+    let k = c.in_ok-n.ensures.cause.kept in (
+      i.0 ++ take c.in_ok-n.n c.loop-rest.rest.now,
+      written_more c.args.bytes.now i.0 c.loop-rest.rest.now c.in_ok-n.n i.1,
+      Appends-append _ _ _ _ _ i.2 w.appended,
+      k ∙ i.3,
+    )

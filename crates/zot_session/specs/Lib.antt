@@ -1,0 +1,10 @@
+pub mod Fakes
+pub mod Front
+pub mod Head
+pub mod Outside
+pub mod Seen
+pub mod Sending
+pub mod Session
+pub mod Spelling
+pub mod Turn
+pub mod Waiting
