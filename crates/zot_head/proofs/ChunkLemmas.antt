@@ -1,10 +1,10 @@
 -- A body in chunks: one chunk after another, with no count of chunks, and that a whole or a broken body
 -- stays what it is with more bytes behind.
-use Rattle.std.proofs.Common.{◌≡◌, ℕ, zero, suc, ◌+◌, ◌-◌, ◌<◌, ◌≤◌, Bool, true, false, ◌&&◌, cond, eqb, ltb, List, [], ◌∷◌, ◌++◌, length, take, drop, refl, sym, ap, ◌∙◌, arith, inl, inr, Option, Some, None}
+use Rattle.std.proofs.Common.{subst, ◌≡◌, ℕ, zero, suc, ◌+◌, ◌-◌, ◌<◌, ◌≤◌, Bool, true, false, ◌&&◌, cond, eqb, ltb, List, [], ◌∷◌, ◌++◌, length, take, drop, refl, sym, ap, ◌∙◌, arith, inl, inr, Option, Some, None}
 use Rattle.std.proofs.lemmas.List.{length-append, length-drop, take-append-le, drop-append-le, drop-drop}
 use Rattle.std.proofs.lemmas.Bool.{cases_lt}
 use Rattle.std.proofs.lemmas.Bool.Decides.{nat_tests}
-use Rattle.zot_head.specs.declared.chunk_error.ChunkError.TheVariants.{Bad, TooLarge}
+use Rattle.zot_head.specs.declared.chunk_error.ChunkError.TheVariants.{Bad, NoMemory, TooLarge, TooLong}
 use Rattle.zot_head.specs.Limits.{chunk_line_limit, trailer_limit}
 use Rattle.zot_head.specs.Lines.{line_end, section_end, Extent, Ends, Passes, Goes, extent}
 use Rattle.zot_head.specs.Chunked.{size_of, Body, Whole, Unfinished, Broken, behind, from_trailer, from_tail, from_bytes, from_size, from_line, chunks, chunked}
@@ -240,3 +240,63 @@ chunked_ends_below (suc n) room bytes lt =
 
 pub chunked_ends : (room : ℕ) (bytes : List ℕ) → LeavesEnding bytes (chunked room bytes)
 chunked_ends room bytes = chunked_ends_below (suc (length bytes)) room bytes (omega arith)
+
+-- ---- a definition of a body doesn't tell of memory
+
+-- the error, if there is one, isn't the want of memory
+abbrev pub IsOfBytes : Body → Type 0
+IsOfBytes (Broken body NoMemory) = ⊥
+IsOfBytes (Broken body Bad) = Unit {0}
+IsOfBytes (Broken body TooLong) = Unit {0}
+IsOfBytes (Broken body TooLarge) = Unit {0}
+IsOfBytes (Whole body rest) = Unit {0}
+IsOfBytes (Unfinished body) = Unit {0}
+
+of_bytes-behind : (given : List ℕ) (body : Body) → IsOfBytes body → IsOfBytes (behind given body)
+of_bytes-behind given (Whole body rest) h = h
+of_bytes-behind given (Unfinished body) h = h
+of_bytes-behind given (Broken body Bad) h = h
+of_bytes-behind given (Broken body TooLong) h = h
+of_bytes-behind given (Broken body TooLarge) h = h
+of_bytes-behind given (Broken body NoMemory) h = h
+
+tail_of_bytes : (next : List ℕ → Body) (bytes : List ℕ) → ((rest : List ℕ) → IsOfBytes (next rest)) → IsOfBytes (from_tail next bytes)
+tail_of_bytes next [] all = tt
+tail_of_bytes next (a ∷ []) all = tt
+tail_of_bytes next (a ∷ b ∷ bytes) all = step (eqb a 13 && eqb b 10)
+  where
+    step : (t : Bool) → IsOfBytes (cond t (next bytes) (Broken [] Bad))
+    step true = all bytes
+    step false = tt
+
+size_of_bytes : (next : ℕ → List ℕ → Body) (room : ℕ) (size : Option ℕ) (bytes : List ℕ) → ((room : ℕ) (rest : List ℕ) → IsOfBytes (next room rest)) → IsOfBytes (from_size next room size bytes)
+size_of_bytes next room None bytes all = tt
+size_of_bytes next room (Some zero) bytes all = of_trailer (extent (section_end true) trailer_limit bytes)
+  where
+    of_trailer : (e : Extent) → IsOfBytes (from_trailer e bytes)
+    of_trailer (Ends n) = tt
+    of_trailer Passes = tt
+    of_trailer Goes = tt
+size_of_bytes next room (Some (suc n)) bytes all = step (ltb room (suc n)) (ltb (length bytes) (suc n))
+  where
+    step : (t u : Bool) → IsOfBytes (cond t (Broken [] TooLarge) (cond u (Unfinished bytes) (behind (take (suc n) bytes) (from_tail (next (room - suc n)) (drop (suc n) bytes)))))
+    step true u = tt
+    step false true = tt
+    step false false = of_bytes-behind (take (suc n) bytes) (from_tail (next (room - suc n)) (drop (suc n) bytes)) (tail_of_bytes (next (room - suc n)) (drop (suc n) bytes) (all (room - suc n)))
+
+line_of_bytes : (next : ℕ → List ℕ → Body) (room : ℕ) (e : Extent) (bytes : List ℕ) → ((room : ℕ) (rest : List ℕ) → IsOfBytes (next room rest)) → IsOfBytes (from_line next room e bytes)
+line_of_bytes next room (Ends n) bytes all = size_of_bytes next room (size_of (take n bytes)) (drop n bytes) all
+line_of_bytes next room Passes bytes all = tt
+line_of_bytes next room Goes bytes all = tt
+
+chunks_of_bytes : (count room : ℕ) (bytes : List ℕ) → IsOfBytes (chunks count room bytes)
+chunks_of_bytes zero room bytes = tt
+chunks_of_bytes (suc count) room bytes = line_of_bytes (chunks count) room (extent line_end chunk_line_limit bytes) bytes (chunks_of_bytes count)
+
+chunked_of_bytes : (room : ℕ) (bytes : List ℕ) → IsOfBytes (chunked room bytes)
+unfolding chunked
+chunked_of_bytes room bytes = chunks_of_bytes (suc (length bytes)) room bytes
+
+-- A body in chunks is never broken for want of memory.
+pub broken_of_bytes : (room : ℕ) (bytes body : List ℕ) → chunked room bytes ≡ Broken body NoMemory → ⊥
+broken_of_bytes room bytes body e = subst IsOfBytes e (chunked_of_bytes room bytes)

@@ -8,3 +8,4 @@ pub mod PrintLemmas
 pub mod ProgressLemmas
 pub mod ReadLemmas
 pub mod RuleLemmas
+pub mod SentLemmas

@@ -1,5 +1,5 @@
 -- Where lines end stays where it is with more bytes behind, and lies within the bytes.
-use Rattle.std.proofs.Common.{◌≡◌, ◌≢◌, ◌⊎◌, ℕ, suc, ◌+◌, ◌-◌, ◌<◌, ◌≤◌, Bool, true, false, ◌&&◌, cond, eqb, leb, List, [], ◌∷◌, ◌++◌, length, take, drop, get_or, refl, sym, ap, ◌∙◌, arith, inl, inr, Option, Some, None}
+use Rattle.std.proofs.Common.{zero, ◌≡◌, ◌≢◌, ◌⊎◌, ℕ, suc, ◌+◌, ◌-◌, ◌<◌, ◌≤◌, Bool, true, false, ◌&&◌, cond, eqb, leb, List, [], ◌∷◌, ◌++◌, length, take, drop, get_or, refl, sym, ap, ◌∙◌, arith, inl, inr, Option, Some, None}
 use Rattle.std.specs.Prelude.{option_map}
 use Rattle.std.proofs.lemmas.List.{length-append, length-take, length-drop, take_all, take-append-le, drop-append-le, drop-drop, drop_more}
 use Rattle.std.proofs.lemmas.Bool.{cases_lt}
@@ -59,7 +59,7 @@ begins_feed_stays : (a b : List ℕ) → begins_feed a ≡ true → begins_feed 
 begins_feed_stays [] b e = absurd cc
 begins_feed_stays (x ∷ a) b e = e
 
-begins_feed_some : (a : List ℕ) → begins_feed a ≡ true → 0 < length a
+pub begins_feed_some : (a : List ℕ) → begins_feed a ≡ true → 0 < length a
 begins_feed_some [] e = absurd cc
 begins_feed_some (x ∷ a) e = omega arith
 
@@ -249,3 +249,56 @@ blank_len_return_at bytes i lt e f = (
 
 pub blank_len_none_at : (bytes : List ℕ) (i : ℕ) → i < length bytes → at bytes i ≢ 10 → (at bytes i ≢ 13) ⊎ (begins_feed (drop (i + 1) bytes) ≡ false) → blank_len (drop i bytes) ≡ 0
 blank_len_none_at bytes i lt n o = rw (drop_more bytes i 0 lt) (blank_len_none (at bytes i) (drop (i + 1) bytes) n o)
+
+-- ---- nothing behind an end is needed to see it
+
+pub line_end_cut : (a : List ℕ) (n : ℕ) → line_end a ≡ Some n → line_end (take n a) ≡ Some n
+line_end_cut [] n e = absurd cc
+line_end_cut (x ∷ a) n e =
+    elim (chosen (eqb x 10) (Some 1) (option_map suc (line_end a)) (Some n) e) [
+      | inl p ↦ let one : n ≡ 1 = cc in rw (one, p.0) refl
+      | inr p ↦
+          let m = map_suc (line_end a) n p.1 in
+          rw (m.2, p.0, line_end_cut a m.0 m.1) refl
+    ]
+
+begins_feed_take : (a : List ℕ) (m : ℕ) → 0 < m → begins_feed (take m a) ≡ begins_feed a
+begins_feed_take a zero some = absurd (omega arith)
+begins_feed_take [] (suc m) some = refl
+begins_feed_take (x ∷ a) (suc m) some = refl
+
+feed_cut : (x : ℕ) (a : List ℕ) → (eqb x 13 && begins_feed a) ≡ true → eqb x 10 ≡ false → section_end true (take 2 (x ∷ a)) ≡ Some 2
+feed_cut x [] e f = let g = begins_feed_some [] (and_true (eqb x 13) false e).1 in absurd (omega (arith, g))
+feed_cut x (y ∷ a) e f = rw (f, e) refl
+
+pub section_end_cut : (s : Bool) (a : List ℕ) (n : ℕ) → section_end s a ≡ Some n → section_end s (take n a) ≡ Some n
+section_end_cut s [] n e = absurd cc
+section_end_cut true (x ∷ a) n e =
+    elim (chosen (eqb x 10) (Some 1) _ (Some n) e) [
+      | inl p ↦ let one : n ≡ 1 = cc in rw (one, p.0) refl
+      | inr p ↦ elim (chosen (eqb x 13 && begins_feed a) (Some 2) _ (Some n) p.1) [
+        | inl q ↦ let two : n ≡ 2 = cc in rw two (feed_cut x a q.0 p.0)
+        | inr q ↦
+            let m = map_suc (section_end false a) n q.1 in
+            let w = section_end_within false a m.0 m.1 in
+            rw (m.2, p.0, begins_feed_take a m.0 w.0, q.0, section_end_cut false a m.0 m.1) refl
+      ]
+    ]
+section_end_cut false (x ∷ a) n e =
+    let m = map_suc (section_end (eqb x 10) a) n e in
+    rw (m.2, section_end_cut (eqb x 10) a m.0 m.1) refl
+
+-- an end in the first bytes is the one of the part's own bytes
+pub extent_ends_at : (part_end : List ℕ → Option ℕ) (limit : ℕ) (a b : List ℕ) → IsEnd part_end → part_end a ≡ Some (length a) → length a ≤ limit → extent part_end limit (a ++ b) ≡ Ends (length a)
+extent_ends_at part_end limit a b is e le =
+    let k : limit ≡ length a + (limit - length a) = omega arith in
+    let front : take limit (a ++ b) ≡ a ++ take (limit - length a) b = ap (λ (m : ℕ). take m (a ++ b)) k ∙ take-append-add a b (limit - length a) in
+    rw (front, is.stays a (take (limit - length a) b) (length a) e) refl
+
+pub ends_found : (part_end : List ℕ → Option ℕ) (limit n : ℕ) (a : List ℕ) → extent part_end limit a ≡ Ends n → part_end (take limit a) ≡ Some n
+ends_found part_end limit n a h = found (part_end (take limit a)) (leb limit (length a)) h
+  where
+    found : (o : Option ℕ) (t : Bool) → extent_of o t ≡ Ends n → o ≡ Some n
+    found (Some m) t e = cc
+    found None true e = absurd cc
+    found None false e = absurd cc

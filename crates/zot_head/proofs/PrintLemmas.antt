@@ -1,16 +1,16 @@
 -- A request's head ends where its lines say, and has as many lines as fields between its first line and its
 -- empty line.
-use Rattle.std.proofs.Common.{◌≡◌, ◌≢◌, ℕ, suc, ◌+◌, ◌<◌, Bool, true, false, IsTrue, cond, eqb, List, [], ◌∷◌, ◌++◌, length, refl, sym, ap, subst, ◌∙◌, arith, inl, Option, Some, None, append_assoc}
+use Rattle.std.proofs.Common.{◌≤◌, ◌≡◌, ◌≢◌, ℕ, suc, ◌+◌, ◌<◌, Bool, true, false, IsTrue, cond, eqb, List, [], ◌∷◌, ◌++◌, length, refl, sym, ap, subst, ◌∙◌, arith, inl, Option, Some, None, append_assoc}
 use Rattle.std.specs.Prelude.{option_map, count_by, All}
 use Rattle.std.specs.List.{flat_map}
 use Rattle.std.proofs.lemmas.List.{length-append, append-nil, drop_at}
 use Rattle.std.proofs.lemmas.List.Elements.{All-head, All-tail}
 use Rattle.std.proofs.lemmas.List.Sums.{sum_by-append}
 use Rattle.std.proofs.lemmas.Bool.Decides.{nat_tests}
-use Rattle.httparse.specs.Grammar.{is_token_byte, is_uri_byte, is_value_byte, AllPass, LineEnd, crlf, lf, print_end, print_blank, print_version, Field, print_field, IsField, print_section, RequestHead, print_request, IsRequestHead}
+use Rattle.httparse.specs.Grammar.{is_token_byte, is_uri_byte, is_value_byte, AllPass, LineEnd, crlf, lf, print_end, print_blank, print_version, Field, print_field, IsField, print_section, RequestHead, print_request, IsRequestHead, ReadsRequest}
 use Rattle.httparse.proofs.GrammarLemmas.{cons-append, print_request-append}
-use Rattle.zot_head.specs.Lines.{line_end, section_end, blank_len, head_end, lines_in}
-use Rattle.zot_head.proofs.LineLemmas.{blank_len_feed, blank_len_none}
+use Rattle.zot_head.specs.Lines.{line_end, section_end, blank_len, head_end, lines_in, Ends, extent}
+use Rattle.zot_head.proofs.LineLemmas.{blank_len_feed, blank_len_none, head_end_is, extent_ends_at}
 
 -- ---- bytes without an LF
 
@@ -260,3 +260,8 @@ module _ (h : RequestHead) (is : IsRequestHead h) where
         feeds-fields h.fields is.fields,
         feeds-end h.last,
       ))
+
+-- a head that is read at the front ends there
+pub head_ends : (limit : ℕ) (bytes rest : List ℕ) (h : RequestHead) → ReadsRequest bytes h rest → length (print_request h) ≤ limit → extent head_end limit bytes ≡ Ends (length (print_request h))
+head_ends limit bytes rest h reads le =
+    ap (extent head_end limit) reads.1 ∙ extent_ends_at head_end limit (print_request h) rest head_end_is (head_end-print h reads.0) le

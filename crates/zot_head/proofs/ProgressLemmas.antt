@@ -177,7 +177,7 @@ from_bytes-append next size a bytes le =
     step true = refl
     step false = behind-append a (take (size - length a) bytes) (from_tail next (drop (size - length a) bytes))
 
-from_bytes-zero : (next : List ℕ → Body) (bytes : List ℕ) → from_bytes next 0 bytes ≡ from_tail next bytes
+pub from_bytes-zero : (next : List ℕ → Body) (bytes : List ℕ) → from_bytes next 0 bytes ≡ from_tail next bytes
 from_bytes-zero next bytes =
     let long : ltb (length bytes) 0 ≡ false = grind (arith, nat_tests) in
     rw long (behind-nil (from_tail next bytes))

@@ -1,8 +1,9 @@
 -- A body in chunks (RFC 9112, section 7.1): chunks, the last of size 0, and a trailer section.
-use Rattle.std.specs.Prelude.{ℕ, zero, suc, ◌-◌, Bool, true, false, ◌&&◌, ◌||◌, List, [], ◌∷◌, ◌++◌, length, take, drop, if◌then◌else◌, ◌==◌, nat_lt, nat_le, Option, Some, None, take_while}
+use Rattle.std.specs.Prelude.{◌≤◌, ◌<◌, ◌≡◌, ℕ, zero, suc, ◌-◌, Bool, true, false, ◌&&◌, ◌||◌, List, [], ◌∷◌, ◌++◌, length, take, drop, if◌then◌else◌, ◌==◌, nat_lt, nat_le, Option, Some, None, take_while}
+use Rattle.std.specs.List.{flat_map, AllByRecursion}
 use Rattle.std.specs.Char.{is_ascii_hexdigit}
 use Rattle.std.specs.Str.Parse.{digits_value}
-use Rattle.httparse.specs.Ascii.{tab, line_feed, carriage_return, semicolon}
+use Rattle.httparse.specs.Ascii.{tab, line_feed, carriage_return, semicolon, crlf_bytes}
 use Rattle.zot_head.specs.declared.chunk_error.ChunkError.{ChunkError}
 use Rattle.zot_head.specs.declared.chunk_error.ChunkError.TheVariants.{Bad, TooLong, TooLarge}
 use Rattle.zot_head.specs.Limits.{chunk_line_limit, trailer_limit}
@@ -91,3 +92,39 @@ chunks (suc count) room bytes = from_line (chunks count) room (extent line_end c
 -- A body in chunks, which has at most so many bytes. It has fewer chunks than the list has bytes.
 unfoldable pub chunked : ℕ → List ℕ → Body
 chunked room bytes = chunks (suc (length bytes)) room bytes
+
+-- a chunk as it is sent: its line, with its CR LF, and its bytes
+pub record Chunk : Type 0 where
+  pub line : List ℕ
+  pub bytes : List ℕ
+
+-- the bytes that are sent of a chunk
+abbrev pub print_chunk : Chunk → List ℕ
+print_chunk c = c.line ++ (c.bytes ++ crlf_bytes)
+
+-- one line that gives that size, and is short enough
+pub record IsSizeLine (line : List ℕ) (size : ℕ) : Type 0 where
+  pub one : line_end line ≡ Some (length line)
+  pub short : length line ≤ chunk_line_limit
+  pub size_is : size_of line ≡ Some size
+
+-- the line gives the number of the chunk's bytes, of which there is at least one
+pub record IsChunk (c : Chunk) : Type 0 where
+  pub line : IsSizeLine c.line (length c.bytes)
+  pub some : 0 < length c.bytes
+
+-- lines through the first empty one, which is the last, and short enough together
+pub record IsTrailer (trailer : List ℕ) : Type 0 where
+  pub one : section_end true trailer ≡ Some (length trailer)
+  pub short : length trailer ≤ trailer_limit
+
+-- the bytes of a body as they are sent: chunks, a line of size 0, and a trailer section
+pub record IsSent (text body : List ℕ) : Type 0 where
+  pub chunks : List Chunk
+  pub last : List ℕ
+  pub trailer : List ℕ
+  pub each : AllByRecursion IsChunk chunks
+  pub last_is : IsSizeLine last 0
+  pub trailer_is : IsTrailer trailer
+  pub text_is : text ≡ flat_map print_chunk chunks ++ (last ++ trailer)
+  pub body_is : body ≡ flat_map (λ c. c.bytes) chunks

@@ -13,7 +13,8 @@ const TRAILER_LIMIT: usize = 16_384;
 
 /// The stage behind a chunk's line of that size, and how many bytes the body may have more.
 fn after_size(size: Option<u64>, room: u64) -> (Stage, u64)
-    ensures same { (more : List ℕ) → from_size chunked room size more ≡ reading_at result.0 result.1 [] more }
+    ensures same { (more : List ℕ) → from_size chunked room size more
+        ≡ reading_at result.0 result.1 [] more }
     ensures sound { IsSound result.0 [] }
 {
     match size {
@@ -27,7 +28,8 @@ fn after_size(size: Option<u64>, room: u64) -> (Stage, u64)
 /// The stage behind a byte of a chunk's line, and how many bytes the body may have more.
 pub(crate) fn after_line_byte(line: &mut Pending, room: u64, byte: u8) -> (Stage, u64)
     requires { IsSound Stage.Line line.old }
-    ensures same { (more : List ℕ) → reading_at Stage.Line room line.old (byte ∷ more) ≡ reading_at result.0 result.1 line.new more }
+    ensures same { (more : List ℕ) → reading_at Stage.Line room line.old (byte ∷ more)
+        ≡ reading_at result.0 result.1 line.new more }
     ensures sound { IsSound result.0 line.new }
 {
     line.push(byte);
@@ -44,7 +46,8 @@ pub(crate) fn after_line_byte(line: &mut Pending, room: u64, byte: u8) -> (Stage
 
 /// The stage behind a byte of the CR LF that stands behind a chunk.
 pub(crate) fn after_tail_byte(first: Option<u8>, byte: u8) -> Stage
-    ensures same { (room : ℕ) (more : List ℕ) → reading_at (Stage.Tail first) room [] (byte ∷ more) ≡ reading_at result room [] more }
+    ensures same { (room : ℕ) (more : List ℕ) → reading_at (Stage.Tail first) room [] (byte ∷ more)
+        ≡ reading_at result room [] more }
     ensures sound { IsSound result [] }
 {
     match first {
@@ -56,7 +59,8 @@ pub(crate) fn after_tail_byte(first: Option<u8>, byte: u8) -> Stage
 
 /// How much has come of a trailer line, or none behind the empty one.
 fn next_line(so_far: LineSoFar, byte: u8) -> Option<LineSoFar>
-    ensures { (bytes : List ℕ) → trailer_end so_far (byte ∷ bytes) ≡ trailer_end_after result bytes }
+    ensures { (bytes : List ℕ) → trailer_end so_far (byte ∷ bytes)
+        ≡ trailer_end_after result bytes }
 {
     match so_far {
         LineSoFar::Start if byte == b'\n' => None,
@@ -70,7 +74,9 @@ fn next_line(so_far: LineSoFar, byte: u8) -> Option<LineSoFar>
 /// The stage behind a byte of the trailer section.
 pub(crate) fn after_trailer_byte(so_far: LineSoFar, left: usize, byte: u8) -> Stage
     requires { 0 < left }
-    ensures same { (room : ℕ) (line more : List ℕ) → reading_at (Stage.Trailer so_far left) room line (byte ∷ more) ≡ reading_at result room line more }
+    ensures same { (room : ℕ) (line more : List ℕ)
+        → reading_at (Stage.Trailer so_far left) room line (byte ∷ more)
+        ≡ reading_at result room line more }
     ensures sound { (line : List ℕ) → IsSound result line }
 {
     match next_line(so_far, byte) {

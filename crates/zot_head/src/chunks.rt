@@ -64,8 +64,10 @@ impl Chunks {
         requires stage { self.old.stage ≡ stages.Bytes size }
         requires some { 0 < length piece.now }
         ensures taken { IfOk result (λ n. (0 < n) × (n ≤ length piece.now)) }
-        ensures ok { IfOk result (λ n. Advances self.old piece.now self.new (drop n piece.now) out.old.items out.new.items) }
-        ensures err { OnErr result ((self.new.stage ≡ stages.Failed errors.NoMemory) × (out.new.items ≡ out.old.items)) }
+        ensures ok { IfOk result (λ n.
+            Advances self.old piece.now self.new (drop n piece.now) out.old.items out.new.items) }
+        ensures err { OnErr result
+            ((self.new.stage ≡ stages.Failed errors.NoMemory) × (out.new.items ≡ out.old.items)) }
     {
         let n = size.min(piece.len() as u64);
         let len = n as usize;
@@ -86,8 +88,10 @@ impl Chunks {
         requires goes_on { IsTrue (goes_on self.old.stage) }
         requires some { 0 < length piece.now }
         ensures taken { IfOk result (λ n. (0 < n) × (n ≤ length piece.now)) }
-        ensures ok { IfOk result (λ n. Advances self.old piece.now self.new (drop n piece.now) out.old.items out.new.items) }
-        ensures err { OnErr result ((self.new.stage ≡ stages.Failed errors.NoMemory) × (out.new.items ≡ out.old.items)) }
+        ensures ok { IfOk result (λ n.
+            Advances self.old piece.now self.new (drop n piece.now) out.old.items out.new.items) }
+        ensures err { OnErr result
+            ((self.new.stage ≡ stages.Failed errors.NoMemory) × (out.new.items ≡ out.old.items)) }
     {
         let byte = piece[0];
         match self.stage {
@@ -118,10 +122,13 @@ impl Chunks {
         ensures answers { Answers self.old piece.now result out.old.items out.new.items }
         ensures within { IfOk result (λ fed. fed.taken ≤ length piece.now) }
         // What comes behind is read as if all had come at once.
-        ensures goes_on { IfOk result (λ fed. Advances self.old piece.now self.new (drop fed.taken piece.now) out.old.items out.new.items) }
+        ensures goes_on { IfOk result (λ fed. Advances self.old piece.now self.new
+            (drop fed.taken piece.now) out.old.items out.new.items) }
         // Behind the body nothing is taken, and behind an error it comes again.
-        ensures finished { IfOk result (λ fed. IsTrue fed.done → (bytes : List ℕ) → reading self.new bytes ≡ Whole [] bytes) }
-        ensures failed { IfErr result (λ error. (bytes : List ℕ) → reading self.new bytes ≡ Broken [] error) }
+        ensures finished { IfOk result (λ fed. IsTrue fed.done
+            → (bytes : List ℕ) → reading self.new bytes ≡ Whole [] bytes) }
+        ensures failed { IfErr result (λ error.
+            (bytes : List ℕ) → reading self.new bytes ≡ Broken [] error) }
     {
         let mut taken = 0;
         while taken < piece.len() && self.goes_on() {
@@ -141,11 +148,15 @@ impl Chunks {
     /// bytes would, however they were cut.
     pub fn feed_all(&mut self, pieces: &[Vec<u8>], out: &mut Vec<u8>) -> Result<Fed, ChunkError>
         requires { length (flat_map (λ piece. piece.items) pieces.now) < 2 ^ 64 }
-        ensures answers { Answers self.old (flat_map (λ piece. piece.items) pieces.now) result out.old.items out.new.items }
-        ensures goes_on { IfOk result (λ fed. Advances self.old (flat_map (λ piece. piece.items) pieces.now) self.new
+        ensures answers { Answers self.old (flat_map (λ piece. piece.items) pieces.now) result
+            out.old.items out.new.items }
+        ensures goes_on { IfOk result (λ fed.
+            Advances self.old (flat_map (λ piece. piece.items) pieces.now) self.new
             (drop fed.taken (flat_map (λ piece. piece.items) pieces.now)) out.old.items out.new.items) }
-        ensures finished { IfOk result (λ fed. IsTrue fed.done → (bytes : List ℕ) → reading self.new bytes ≡ Whole [] bytes) }
-        ensures failed { IfErr result (λ error. (bytes : List ℕ) → reading self.new bytes ≡ Broken [] error) }
+        ensures finished { IfOk result (λ fed. IsTrue fed.done
+            → (bytes : List ℕ) → reading self.new bytes ≡ Whole [] bytes) }
+        ensures failed { IfErr result (λ error.
+            (bytes : List ℕ) → reading self.new bytes ≡ Broken [] error) }
     {
         let mut fed = self.feed(&[], out)?;
         for piece in pieces {

@@ -8,7 +8,8 @@ use httparse::parse_hex_digit;
 /// The number that the digits write in that radix.
 pub(crate) fn digits_value(radix: u64, digits: &[u8]) -> u64
     requires radix { radix ≤ 16 }
-    requires digits { (k : ℕ) → k < length digits.now → digit_value (slice_index digits.now k) < radix }
+    requires digits { (k : ℕ) → k < length digits.now
+        → digit_value (slice_index digits.now k) < radix }
     requires fits { radix ^ length digits.now ≤ 2 ^ 64 }
     ensures { result ≡ digits_value_of radix digits.now }
 {

@@ -1,4 +1,4 @@
-use std::alloc::{AllocError, AllocFailed};
+use std::alloc::AllocError;
 use thiserror::Error;
 
 /// Why bytes aren't read as a head.
@@ -23,17 +23,6 @@ impl From<AllocError> for HeadError {
     ghost from_gives = { λ _ e. e ≡ NoMemory };
 
     fn from(_: AllocError) -> HeadError {
-        HeadError::NoMemory
-    }
-}
-
-impl<T: Drop> From<AllocFailed<T>> for HeadError {
-    ghost use Rattle.std.specs.Prelude.{◌≡◌};
-    ghost use Rattle.zot_head.specs.declared.head_error.HeadError.TheVariants.{NoMemory};
-
-    ghost from_gives = { λ _ e. e ≡ NoMemory };
-
-    fn from(_: AllocFailed<T>) -> HeadError {
         HeadError::NoMemory
     }
 }

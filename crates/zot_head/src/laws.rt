@@ -1,6 +1,11 @@
 //! What holds of whatever stands at the front of a list of bytes.
-ghost use Rattle.std.specs.Prelude.{◌≡◌, ℕ, List, ◌++◌};
+ghost use Rattle.std.specs.Prelude.{◌≡◌, ◌≤◌, ℕ, List, ◌++◌, length};
+ghost use Rattle.httparse.specs.Grammar.{RequestHead, print_request, ReadsRequest};
 ghost use Rattle.zot_head.specs.declared.head.Head.{Head};
+ghost use Rattle.zot_head.specs.declared.chunk_error.ChunkError.TheVariants as errors;
+ghost use Rattle.zot_head.specs.Chunked.{Whole, Broken, IsSent, chunked};
+ghost use Rattle.zot_head.specs.Limits.{head_limit};
+ghost use Rattle.zot_head.specs.Lines.{head_end, Ends, extent};
 ghost use Rattle.zot_head.specs.Front.{Front, Message, IsFront, IsDecided, with_more, IsRestOf};
 
 /// A whole message or a refusal stays what it is, whatever bytes come behind.
@@ -19,4 +24,29 @@ pub fn message_takes()
 pub fn front_is_one()
     ensures { (limit : ℕ) (bytes : List ℕ) (one other : Front) → IsFront limit bytes one
         → IsFront limit bytes other → one ≡ other }
+{}
+
+/// What is sent as a body in chunks is read as that body, whatever follows it (RFC 9112, section 7.1).
+pub fn sent_is_read()
+    ensures { (limit : ℕ) (text body rest : List ℕ) → IsSent text body → length body ≤ limit
+        → chunked limit (text ++ rest) ≡ Whole body rest }
+{}
+
+/// Nothing else is read as a body in chunks, nor one of more bytes than the limit.
+pub fn only_sent_is_read()
+    ensures { (limit : ℕ) (bytes body rest : List ℕ) → chunked limit bytes ≡ Whole body rest
+        → (text : List ℕ) × IsSent text body × (length body ≤ limit) × (bytes ≡ text ++ rest) }
+{}
+
+/// Bytes are never refused as a body in chunks for want of memory: that is told by calls alone.
+pub fn refused_for_its_bytes()
+    ensures { (limit : ℕ) (bytes body : List ℕ)
+        → chunked limit bytes ≡ Broken body errors.NoMemory → ⊥ }
+{}
+
+/// A request's head, as `httparse` reads it, ends where its lines say it does (RFC 9112, section 2.1).
+pub fn head_ends_as_read()
+    ensures { (bytes rest : List ℕ) (request : RequestHead) → ReadsRequest bytes request rest
+        → length (print_request request) ≤ head_limit
+        → extent head_end head_limit bytes ≡ Ends (length (print_request request)) }
 {}

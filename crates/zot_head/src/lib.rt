@@ -32,5 +32,8 @@ pub use crate::found::{Found, find_head};
 pub use crate::framing::Framing;
 pub use crate::head::Head;
 pub use crate::head_error::HeadError;
-pub use crate::laws::{front_is_one, front_stays, message_takes};
+pub use crate::laws::{
+    front_is_one, front_stays, head_ends_as_read, message_takes, only_sent_is_read,
+    refused_for_its_bytes, sent_is_read,
+};
 pub use crate::read::read_head;

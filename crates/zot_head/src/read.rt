@@ -78,8 +78,11 @@ fn head_of(
 ) -> Result<Head, HeadError>
     requires within { IsRequestWithin bytes.now spans.now request.now }
     requires parts { (h : RequestHead) × IsRequestAt bytes.now spans.now request.now h }
-    ensures head { IfOk result (λ head. (h : RequestHead) × IsRequestAt bytes.now spans.now request.now h × HasParts h head) }
-    ensures bad { result ≡ Err HeadError.Bad → (h : RequestHead) × IsRequestAt bytes.now spans.now request.now h × (framing_of (map field_of_line h.fields) ≡ None) }
+    ensures head { IfOk result (λ head. (h : RequestHead)
+        × IsRequestAt bytes.now spans.now request.now h × HasParts h head) }
+    ensures bad { result ≡ Err HeadError.Bad → (h : RequestHead)
+        × IsRequestAt bytes.now spans.now request.now h
+        × (framing_of (map field_of_line h.fields) ≡ None) }
     ensures few { result ≢ Err HeadError.TooLong }
 {
     let method = words_at(alloc, bytes, request.method)?;

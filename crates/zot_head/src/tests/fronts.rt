@@ -1,4 +1,7 @@
-use crate::{Found, find_head, front_is_one, front_stays, message_takes};
+use crate::{
+    Found, find_head, front_is_one, front_stays, head_ends_as_read, message_takes,
+    only_sent_is_read, refused_for_its_bytes, sent_is_read,
+};
 use std::alloc::{AllocError, Global};
 use std::test::Fail;
 
@@ -33,6 +36,10 @@ fn heads_end_cut_anywhere(rt: HostRuntime) {
     front_stays();
     message_takes();
     front_is_one();
+    head_ends_as_read();
+    sent_is_read();
+    only_sent_is_read();
+    refused_for_its_bytes();
 }
 
 #[test]
