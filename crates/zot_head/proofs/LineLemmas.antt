@@ -1,7 +1,7 @@
 -- Where lines end stays where it is with more bytes behind, and lies within the bytes.
 use Rattle.std.proofs.Common.{zero, ◌≡◌, ◌≢◌, ◌⊎◌, ℕ, suc, ◌+◌, ◌-◌, ◌<◌, ◌≤◌, Bool, true, false, ◌&&◌, cond, eqb, leb, List, [], ◌∷◌, ◌++◌, length, take, drop, get_or, refl, sym, ap, ◌∙◌, arith, inl, inr, Option, Some, None}
 use Rattle.std.specs.Prelude.{option_map}
-use Rattle.std.proofs.lemmas.List.{length-append, length-take, length-drop, take_all, take-append-le, drop-append-le, drop-drop, drop_more}
+use Rattle.std.proofs.lemmas.List.{take-take, length-append, length-take, length-drop, take_all, take-append-le, drop-append-le, drop-drop, drop_more}
 use Rattle.std.proofs.lemmas.Bool.{cases_lt}
 use Rattle.std.proofs.lemmas.Bool.Decides.{nat_tests}
 use Rattle.std.proofs.Math.Seq.{take-append-add}
@@ -302,3 +302,67 @@ ends_found part_end limit n a h = found (part_end (take limit a)) (leb limit (le
     found (Some m) t e = cc
     found None true e = absurd cc
     found None false e = absurd cc
+
+-- ---- a head's own bytes end where it does
+
+shift_suc : (k : ℕ) (o : Option ℕ) → option_map (λ m. suc k + m) o ≡ option_map suc (option_map (λ m. k + m) o)
+shift_suc k None = refl
+shift_suc k (Some m) = ap Some (omega arith)
+
+head_end-feed : (x : ℕ) (a : List ℕ) → eqb x 10 ≡ true → head_end (x ∷ a) ≡ option_map suc (head_end a)
+head_end-feed x [] e = rw e refl
+head_end-feed x (y ∷ a) e = rw e (shift_suc (blank_len (y ∷ a)) (section_end false (drop (blank_len (y ∷ a)) (y ∷ a))))
+
+head_end-return : (x y : ℕ) (a : List ℕ) → eqb x 10 ≡ false → (eqb x 13 && eqb y 10) ≡ true → head_end (x ∷ y ∷ a) ≡ option_map suc (option_map suc (head_end a))
+head_end-return x y a e f =
+    rw (e, f) (shift_suc (suc (blank_len a)) (section_end false (drop (blank_len a) a)) ∙ ap (option_map suc) (shift_suc (blank_len a) (section_end false (drop (blank_len a) a))))
+
+head_end-none : (x y : ℕ) (a : List ℕ) → eqb x 10 ≡ false → (eqb x 13 && eqb y 10) ≡ false → head_end (x ∷ y ∷ a) ≡ section_end false (x ∷ y ∷ a)
+head_end-none x y a e f =
+    let none : blank_len (x ∷ y ∷ a) ≡ 0 = rw (e, f) refl in
+    ap (λ (k : ℕ). option_map (λ m. k + m) (section_end false (drop k (x ∷ y ∷ a)))) none ∙ plain (section_end false (x ∷ y ∷ a))
+  where
+    plain : (o : Option ℕ) → option_map (λ m. 0 + m) o ≡ o
+    plain None = refl
+    plain (Some m) = ap Some (omega arith)
+
+-- a section's end from within a line stands behind two bytes at least
+two_more : (x y : ℕ) (a : List ℕ) (n : ℕ) → section_end false (x ∷ y ∷ a) ≡ Some n → (k : ℕ) × (n ≡ suc (suc k))
+two_more x y a n e =
+    let m = map_suc (section_end (eqb x 10) (y ∷ a)) n e in
+    let w = section_end_within (eqb x 10) (y ∷ a) m.0 m.1 in
+    (m.0 - 1, omega (arith, m.2, w.0))
+
+head_end_cut : (a : List ℕ) (n : ℕ) → head_end a ≡ Some n → head_end (take n a) ≡ Some n
+head_end_cut [] n e = absurd cc
+head_end_cut (x ∷ []) n e = absurd (nothing (eqb x 10) e)
+  where
+    nothing : (t : Bool) → option_map (λ m. cond t 1 0 + m) (section_end false (drop (cond t 1 0) (x ∷ []))) ≡ Some n → ⊥
+    nothing true h = cc
+    nothing false h = cc
+head_end_cut (x ∷ y ∷ a) n e =
+    elim (cases_bool (eqb x 10)) [
+      | inl p ↦
+          let m = map_suc (head_end (y ∷ a)) n (sym (head_end-feed x (y ∷ a) p) ∙ e) in
+          rw m.2 (head_end-feed x (take m.0 (y ∷ a)) p ∙ rw (head_end_cut (y ∷ a) m.0 m.1) refl)
+      | inr p ↦ elim (cases_bool (eqb x 13 && eqb y 10)) [
+        | inl q ↦
+            let m = map_suc (option_map suc (head_end a)) n (sym (head_end-return x y a p q) ∙ e) in
+            let k = map_suc (head_end a) m.0 m.1 in
+            rw (m.2, k.2) (head_end-return x y (take k.0 a) p q ∙ rw (head_end_cut a k.0 k.1) refl)
+        | inr q ↦
+            let h = sym (head_end-none x y a p q) ∙ e in
+            let two = two_more x y a n h in
+            let cut : section_end false (take (suc (suc two.0)) (x ∷ y ∷ a)) ≡ Some (suc (suc two.0)) = section_end_cut false (x ∷ y ∷ a) (suc (suc two.0)) (h ∙ ap Some two.1) in
+            rw two.1 (head_end-none x y (take two.0 a) p q ∙ cut)
+      ]
+    ]
+  where
+    cases_bool : (t : Bool) → (t ≡ true) ⊎ (t ≡ false)
+    cases_bool true = inl refl
+    cases_bool false = inr refl
+
+pub extent_cut : (limit n : ℕ) (a : List ℕ) → extent head_end limit a ≡ Ends n → head_end (take n a) ≡ Some n
+extent_cut limit n a e =
+    let w = extent_within head_end limit n a head_end_is e in
+    ap head_end (sym (take-take n limit a w.2)) ∙ head_end_cut (take limit a) n (ends_found head_end limit n a e)

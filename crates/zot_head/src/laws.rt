@@ -1,5 +1,5 @@
 //! What holds of whatever stands at the front of a list of bytes.
-ghost use Rattle.std.specs.Prelude.{◌≡◌, ◌≤◌, ℕ, List, ◌++◌, length};
+ghost use Rattle.std.specs.Prelude.{◌≡◌, ◌≤◌, ℕ, List, ◌++◌, length, take, Some};
 ghost use Rattle.httparse.specs.Grammar.{RequestHead, print_request, ReadsRequest};
 ghost use Rattle.zot_head.specs.declared.head.Head.{Head};
 ghost use Rattle.zot_head.specs.declared.chunk_error.ChunkError.TheVariants as errors;
@@ -49,4 +49,10 @@ pub fn head_ends_as_read()
     ensures { (bytes rest : List ℕ) (request : RequestHead) → ReadsRequest bytes request rest
         → length (print_request request) ≤ head_limit
         → extent head_end head_limit bytes ≡ Ends (length (print_request request)) }
+{}
+
+/// The bytes of a head, without those behind it, end where it does.
+pub fn head_ends_alone()
+    ensures { (bytes : List ℕ) (n : ℕ) → extent head_end head_limit bytes ≡ Ends n
+        → head_end (take n bytes) ≡ Some n }
 {}

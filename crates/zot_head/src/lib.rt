@@ -33,7 +33,7 @@ pub use crate::framing::Framing;
 pub use crate::head::Head;
 pub use crate::head_error::HeadError;
 pub use crate::laws::{
-    front_is_one, front_stays, head_ends_as_read, message_takes, only_sent_is_read,
-    refused_for_its_bytes, sent_is_read,
+    front_is_one, front_stays, head_ends_alone, head_ends_as_read, message_takes,
+    only_sent_is_read, refused_for_its_bytes, sent_is_read,
 };
 pub use crate::read::read_head;

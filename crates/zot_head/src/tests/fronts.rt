@@ -1,5 +1,5 @@
 use crate::{
-    Found, find_head, front_is_one, front_stays, head_ends_as_read, message_takes,
+    Found, find_head, front_is_one, front_stays, head_ends_alone, head_ends_as_read, message_takes,
     only_sent_is_read, refused_for_its_bytes, sent_is_read,
 };
 use std::alloc::{AllocError, Global};
@@ -36,6 +36,7 @@ fn heads_end_cut_anywhere(rt: HostRuntime) {
     front_stays();
     message_takes();
     front_is_one();
+    head_ends_alone();
     head_ends_as_read();
     sent_is_read();
     only_sent_is_read();
