@@ -1,5 +1,5 @@
 -- What the calls promise, from what their steps told.
-use Rattle.std.proofs.Common.{◌≡◌, ◌<◌, ◌≤◌, ◌+◌, ◌/◌, ℕ, max, List, [], ◌∷◌, ◌++◌, Bool, true, false, cond, ltb, length, Option, Some, None, Contains, sym, refl, ap, ◌∙◌, subst, arith, append-nil, length-append, ltb-true, ltb-false}
+use Rattle.std.proofs.Common.{append_assoc, ◌≡◌, ◌<◌, ◌≤◌, ◌+◌, ◌/◌, ℕ, max, List, [], ◌∷◌, ◌++◌, Bool, true, false, cond, ltb, length, Option, Some, None, Contains, sym, refl, ap, ◌∙◌, subst, arith, append-nil, length-append, ltb-true, ltb-false}
 use Rattle.std.specs.List.{AllByRecursion}
 use mathlib.Core.List.{IsPrefix}
 use mathlib.Core.Option.{none, some, some-injective}
@@ -11,10 +11,10 @@ use Rattle.zot_turn.specs.Seats.{numbers, acting, with_entries, HasOwn, longer, 
 use Rattle.zot_turn.specs.Steps.{times, blank, Kept, HasNumber, Takes, MayGive, after_turn, Drawn, Settles, giver, taker, joined}
 use Rattle.zot_turn.proofs.Lists.{prefix_refl, each_append, each_left}
 use Rattle.zot_turn.proofs.Turns.{replays_append, history_push}
-use Rattle.zot_turn.proofs.Totals.{times-append, times_first, times_contained, numbers-append}
+use Rattle.zot_turn.proofs.Totals.{numbers_with, times-append, times_first, times_contained, numbers-append}
 use Rattle.zot_turn.proofs.Changes.{times_owned}
 use Rattle.atomic_table.specs.Seated.{TableId}
-use Rattle.zot_turn.specs.Seats.{Standing, Stands, IsOwed, Turned, Parted, Joined, HasAll, seen}
+use Rattle.zot_turn.specs.Seats.{Standing, Stands, IsOwed, Turned, Parted, Joined, IsLater, HasAll, seen}
 use Rattle.zot_turn.specs.Views.{standing_of, IsAtRest}
 use Rattle.zot_turn.proofs.Turns.{history_prefix}
 use Rattle.zot_turn.proofs.Giving.{own_after}
@@ -114,6 +114,15 @@ module _ {O E : Type 0} (step : O → ℕ → E → O → Type 0) (origin : O) (
         pub turned : (place : TableId) → place ≡ table → (ran : O → O → Type 0) → ran value after → Turned step es ran (standing_of table me.0) (standing_of place now.0)
         turned place is ran run = subst (λ (s : Standing O E). Turned step es ran (standing_of table me.0) s) (λ i. standing_of (sym is i) (sym now_is i).0) (turned_held ran run)
 
+-- after a turn the seat is the same, later
+pub later_turned : {O E : Type 0} (step : O → ℕ → E → O → Type 0) (es : List E) (ran : O → O → Type 0) (old new : Standing O E) → Turned step es ran old new → IsLater old new
+later_turned {O} {E} step es ran old new t = record {
+  home = ap (λ (s : Standing O E). s.home) t.known;
+  numbers = ap (λ (s : Standing O E). numbers s.mine) t.known ∙ numbers_with es old.mine;
+  gave = ap (λ (s : Standing O E). s.gave) t.known;
+  turns = (t.others ++ (acting old.mine, es) ∷ [], sym (append_assoc old.turns t.others ((acting old.mine, es) ∷ [])) ∙ sym (ap (λ (s : Standing O E). s.turns) t.known));
+}
+
 module _ {O E : Type 0} (table : TableId) (number turns : ℕ) (me : Me (Option O) (Known O E)) (r : IsAtRest number turns me) (n : ℕ) (drawn : Me (Option O) (Known O E)) (d : Drawn n me drawn) where
   -- a seat that has drawn has just that number to give
   abbrev drawing_view : Known O E
@@ -147,8 +156,8 @@ module _ {O E : Type 0} (table : TableId) (number turns : ℕ) (me : Me (Option 
       let taken_as : taken.0 ≡ taker drawing_view = (λ i. (q i).0) ∙ (λ i. taker (d.view i).0) in
       subst (λ (s : Standing O E × Standing O E). Parted (standing_of table me.0) s.0 s.1) (λ i. (standing_of (sym a i) (sym given_as i), standing_of (sym b i) (sym taken_as i))) parted_views
 
-module _ {O E : Type 0} (table : TableId) (number turns : ℕ) (me : Me (Option O) (Known O E)) (r : IsAtRest number turns me) (theirs : ℕ) (count : ℕ) (other : Me (Option O) (Known O E)) (q : IsAtRest theirs count other)
-    (both now : Me (Option O) (Known O E)) (both_is : both ≡ (joined me.0 other.0, me.1)) (slots found : ℕ) (told : Settles (Rattle.atomic_table.specs.Table.step slots 0 0 0 none) both found now) where
+module _ {O E : Type 0} (step : O → ℕ → E → O → Type 0) (origin : O) (table : TableId) (number turns : ℕ) (me : Me (Option O) (Known O E)) (r : IsAtRest number turns me) (opening : me.0.opening ≡ Some origin) (theirs : ℕ) (count : ℕ) (other : Me (Option O) (Known O E)) (q : IsAtRest theirs count other)
+    (both now : Me (Option O) (Known O E)) (both_is : both ≡ (joined me.0 other.0, me.1)) (slots found : ℕ) (told : Settles step (Rattle.atomic_table.specs.Table.step slots 0 0 0 none) both found now) where
   now_is_joined : now ≡ (record (joined me.0 other.0) { told = [] }, me.1)
   now_is_joined = told.view ∙ (λ i. (record (both_is i).0 { told = [] }, (both_is i).1))
 
@@ -181,7 +190,10 @@ module _ {O E : Type 0} (table : TableId) (number turns : ℕ) (me : Me (Option 
       by_case true h = (h, prefix_refl ys)
       by_case false h = (prefix_refl xs, h)
 
-  joined_views : Joined (standing_of table me.0) (standing_of table other.0) (standing_of table (record (joined me.0 other.0) { told = [] }))
+  joined_legal : (value : O) × Replays step origin (history (longer me.0.turns other.0.turns)) value
+  joined_legal = subst (λ (m : Me (Option O) (Known O E)). (value : O) × Replays step origin (history m.0.turns) value) both_is (told.legal origin ((λ i. (both_is i).0.opening) ∙ opening))
+
+  joined_views : Joined step (standing_of table me.0) (standing_of table other.0) (standing_of table (record (joined me.0 other.0) { told = [] }))
   joined_views = let h = both_begins me.0.turns other.0.turns begins in record {
     known = refl;
     first = h.0;
@@ -195,10 +207,11 @@ module _ {O E : Type 0} (table : TableId) (number turns : ℕ) (me : Me (Option 
       ap (times n) (numbers-append me.0.mine other.0.mine),
       times-append n (numbers me.0.mine) (numbers other.0.mine),
     ));
+    legal = (joined_legal.0, subst (λ (o : Option O). Stands step record { table = table; opening = o } (history (longer me.0.turns other.0.turns)) joined_legal.0) (sym opening) joined_legal.1);
   }
 
-  pub joined_seats : (here there : TableId) → here ≡ table → there ≡ table → Joined (standing_of table me.0) (standing_of there other.0) (standing_of here now.0)
-  joined_seats here there a b = subst (λ (s : Standing O E × Standing O E). Joined (standing_of table me.0) s.0 s.1) (λ i. (standing_of (sym b i) other.0, standing_of (sym a i) (sym now_is_joined i).0)) joined_views
+  pub joined_seats : (here there : TableId) → here ≡ table → there ≡ table → Joined step (standing_of table me.0) (standing_of there other.0) (standing_of here now.0)
+  joined_seats here there a b = subst (λ (s : Standing O E × Standing O E). Joined step (standing_of table me.0) s.0 s.1) (λ i. (standing_of (sym b i) other.0, standing_of (sym a i) (sym now_is_joined i).0)) joined_views
 
 -- what a closing shows of the slot that is handed out
 pub record Ends {O E : Type 0} (step : O → ℕ → E → O → Type 0) (origin : O) (slots : List (Option O)) (v : Known O E) : Type 0 where

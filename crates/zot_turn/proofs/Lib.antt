@@ -11,3 +11,5 @@ pub mod Parting
 pub mod Joining
 pub mod Closing
 pub mod Calling
+pub mod Carried
+pub mod Counting

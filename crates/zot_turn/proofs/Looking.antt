@@ -1,14 +1,15 @@
 -- A seat looks at the count of turns; and after a join it learns which beginning was the longer.
-use Rattle.std.proofs.Common.{◌≡◌, ◌+◌, ◌*◌, ◌/◌, ℕ, max, List, [], ◌++◌, Bool, true, false, ltb, length, set, get_or, Option, refl, ap, ◌∙◌, arith}
+use Rattle.std.proofs.Common.{◌≡◌, ◌+◌, ◌*◌, ◌/◌, ℕ, max, List, [], ◌++◌, Bool, true, false, ltb, length, set, get_or, Option, sym, subst, refl, ap, ◌∙◌, arith}
 use Rattle.std.proofs.lemmas.List.{set-get_or}
 use mathlib.Core.Option.{none, some}
 use lib.ListN.{get_elem?}
 use Rattle.atomic_table.specs.Table.{State, Me, Step, Act, keeps, takes, gives, rest, Allows, Splits, Joins, Final, Seen, put_back}
 use Rattle.zot_turn.specs.declared.known.Known.{Known}
-use Rattle.zot_turn.specs.History.{history, entries_of}
+use Rattle.zot_turn.specs.History.{Replays, history, entries_of}
 use Rattle.zot_turn.specs.Seats.{numbers}
 use Rattle.zot_turn.specs.Steps.{times, once, blank, owned, Fits, Kept, Looks, Settles}
 use Rattle.zot_turn.proofs.Lists.{prefix_nil, each_left}
+use Rattle.zot_turn.proofs.Turns.{history-append, replays_begin}
 use Rattle.zot_turn.proofs.Changes.{times_owned, recorded_set, changed, its_once}
 
 half_of : (n : ℕ) (b : Bool) (word : ℕ) → word ≡ 2 * n + once b → word / 2 ≡ n
@@ -40,7 +41,7 @@ module _ {O E : Type 0} (step : O → ℕ → E → O → Type 0) (origin : O) w
       let w : Known O E = record me.0 { shown = max me.0.shown (get_or s.words 0 0 / 2) } in
       (w, keeps, tt, looked s k id me.0 w at (record { opening = f.opening; seen = f.seen; told = f.told; whole = f.whole; own = f.own; given = f.given; shown = omega (arith, f.shown, count); holds = f.holds; acts = f.acts }) refl refl refl refl, refl)
 
-  pub settles_on : (id slots : ℕ) (me : Me (Option O) (Known O E)) → Allows (Kept step origin) slots id me 0 (λ n. n) (Settles (Rattle.atomic_table.specs.Table.step slots 0 0 0 none) me)
+  pub settles_on : (id slots : ℕ) (me : Me (Option O) (Known O E)) → Allows (Kept step origin) slots id me 0 (λ n. n) (Settles step (Rattle.atomic_table.specs.Table.step slots 0 0 0 none) me)
   settles_on id slots me s k long at fits =
       let f = k.known id me.0 at in
       let w : Known O E = record me.0 { told = [] } in (
@@ -53,5 +54,10 @@ module _ {O E : Type 0} (step : O → ℕ → E → O → Type 0) (origin : O) w
           begins = f.told;
           own = each_left (λ m. entries_of m.0 (history me.0.turns) ≡ m.1) me.0.mine (blank me.0.ready) f.own;
           apart = λ n. omega (arith, its_once step origin s k n id me.0 at, times_owned n me.0);
+          legal = λ o e.
+              let more = f.seen.0 in
+              let whole : Replays step origin (history me.0.turns ++ history more) k.value = subst (λ (h : List (ℕ × E)). Replays step origin h k.value) (sym (ap history f.seen.1) ∙ history-append me.0.turns more) k.legal in
+              let r = replays_begin step origin k.value (history me.0.turns) (history more) whole in
+              (r.0, subst (λ (p : O). Replays step p (history me.0.turns) r.0) (sym (f.opening o e)) r.1);
         },
       )

@@ -25,7 +25,7 @@ times_first n m ms e = let h : times n (m ∷ ms) ≡ 1 + times n ms = ap (λ (b
 pub times_rest : (n m : ℕ) (ms : List ℕ) → m ≢ n → times n (m ∷ ms) ≡ 0 + times n ms
 times_rest n m ms ne = ap (λ (b : Bool). cond b 1 0 + times n ms) (ne_eqb m n ne)
 
-times_more : (n m : ℕ) (ms : List ℕ) → times n ms ≤ times n (m ∷ ms)
+pub times_more : (n m : ℕ) (ms : List ℕ) → times n ms ≤ times n (m ∷ ms)
 times_more n m ms = let k : ℕ = cond (m == n) 1 0 in let g : times n ms ≤ k + times n ms = omega arith in g
 
 times_at : (n : ℕ) (xs : List ℕ) (k : ℕ) → k < length xs → get_or xs k n ≡ n → 0 < times n xs

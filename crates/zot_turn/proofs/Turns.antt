@@ -18,6 +18,10 @@ module _ {O E : Type 0} (step : O → ℕ → E → O → Type 0) where
   replays_append a m b [] ys h k = subst (λ (z : O). Replays step z ys b) (sym h) k
   replays_append a m b (x ∷ xs) ys h k = (h.0, h.1, replays_append h.0 m b xs ys h.2 k)
 
+  pub replays_begin : (a b : O) (xs ys : List (ℕ × E)) → Replays step a (xs ++ ys) b → (m : O) × Replays step a xs m × Replays step m ys b
+  replays_begin a b [] ys h = (a, refl, h)
+  replays_begin a b (x ∷ xs) ys h = let r = replays_begin h.0 b xs ys h.2 in (r.0, (h.0, h.1, r.1), r.2)
+
 module _ {E : Type 0} where
   pub history-append : (xs ys : List (ℕ × List E)) → history (xs ++ ys) ≡ history xs ++ history ys
   history-append xs ys = flat_map-append (λ (t : ℕ × List E). signed t.0 t.1) xs ys

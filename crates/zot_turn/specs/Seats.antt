@@ -88,10 +88,18 @@ pub record Parted {O E : Type 0} (old new given : Standing O E) : Type 0 where
   pub ungiven : ¬ Contains old.gave number
   pub idle : turns_of number old.turns ≡ []
 
--- a seat took in another: what the two had seen begins one history, of which the longer beginning stays, with the numbers, the given numbers and the entries of both
-pub record Joined {O E : Type 0} (old other new : Standing O E) : Type 0 where
+-- a seat took in another: what the two had seen begins one legal history, of which the longer beginning stays, with the numbers, the given numbers and the entries of both
+pub record Joined {O E : Type 0} (step : O → ℕ → E → O → Type 0) (old other new : Standing O E) : Type 0 where
   pub known : new ≡ record old { turns = longer old.turns other.turns; mine = old.mine ++ other.mine; gave = old.gave ++ other.gave; shown = max old.shown other.shown }
   pub first : IsPrefix old.turns new.turns
   pub second : IsPrefix other.turns new.turns
   pub own : HasOwn new.mine (seen new)
   pub distinct : (n : ℕ) → Contains (numbers old.mine) n → ¬ Contains (numbers other.mine) n
+  pub legal : (value : O) × Stands step new.home (seen new) value
+
+-- the same seat later: it has only seen and made more
+pub record IsLater {O E : Type 0} (old new : Standing O E) : Type 0 where
+  pub home : new.home ≡ old.home
+  pub numbers : numbers new.mine ≡ numbers old.mine
+  pub gave : new.gave ≡ old.gave
+  pub turns : IsPrefix old.turns new.turns

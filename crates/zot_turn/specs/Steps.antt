@@ -107,12 +107,13 @@ Gives es s me found now = now ≡ (after_turn es me.0, rest me.1)
 abbrev pub Looks : {O E : Type 0} → Step (Option O) → Me (Option O) (Known O E) → ℕ → Me (Option O) (Known O E) → Type 0
 Looks s me found now = now ≡ (record me.0 { shown = max me.0.shown (found / 2) }, me.1)
 
--- what the two seats of a join had seen are beginnings of one history, and the longer stays
-pub record Settles {O E : Type 0} (s : Step (Option O)) (me : Me (Option O) (Known O E)) (found : ℕ) (now : Me (Option O) (Known O E)) : Type 0 where
+-- what the two seats of a join had seen are beginnings of one legal history, and the longer stays
+pub record Settles {O E : Type 0} (step : O → ℕ → E → O → Type 0) (s : Step (Option O)) (me : Me (Option O) (Known O E)) (found : ℕ) (now : Me (Option O) (Known O E)) : Type 0 where
   pub view : now ≡ (record me.0 { told = [] }, me.1)
   pub begins : IsPrefix me.0.told me.0.turns
   pub own : HasOwn me.0.mine (history me.0.turns)
   pub apart : (n : ℕ) → times n (numbers me.0.mine) ≤ 1
+  pub legal : ForSome me.0.opening (λ o. (value : O) × Replays step o (history me.0.turns) value)
 
 -- the seat that gives its drawn numbers away
 abbrev pub giver : {O E : Type 0} → Known O E → Known O E

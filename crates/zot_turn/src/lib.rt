@@ -11,3 +11,6 @@ mod steps;
 pub use object::{Job, Object};
 pub use seat::{Seat, SeatAt};
 pub use shared::{NoMemory, Shared};
+
+#[cfg(test)]
+mod tests;

@@ -64,10 +64,10 @@ impl<O, E> Play<Option<O>, Known<O, E>> for Look {
 
 pub(crate) struct Settle;
 
-impl<O, E> Play<Option<O>, Known<O, E>> for Settle {
+impl<O: Object> Play<Option<O>, Known<O, O::Entry>> for Settle {
     ghost use Rattle.zot_turn.specs.Steps.{Settles};
 
-    ghost then = { Settles };
+    ghost then = { Settles O.step };
 }
 
 pub(crate) struct Part;

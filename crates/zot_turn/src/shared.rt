@@ -2,7 +2,7 @@
 ghost use Rattle.std.specs.Prelude.{◌≡◌, ◌<◌, ℕ, [], ◌∷◌, ◌++◌, length, max, IsOk, IfOk, Some};
 ghost use Rattle.std.specs.List.{Contains, AllByRecursion};
 ghost use mathlib.Core.List.{IsPrefix};
-ghost use Rattle.zot_turn.specs.Seats.{Turned, Parted, Joined, IsOwed, HasAll, HasOwn, Stands, acting, numbers, seen};
+ghost use Rattle.zot_turn.specs.Seats.{Turned, Parted, Joined, IsLater, IsOwed, HasAll, HasOwn, Stands, acting, numbers, seen};
 
 use crate::known::Known;
 use crate::object::{Job, Object};
@@ -61,7 +61,8 @@ impl<O: Object> Shared<O> {
     pub fn turn<R: Wait, J: Job<O>>(&self, rt: &R, seat: &mut Seat<O>, job: &mut J)
         requires seat { seat.old.home ≡ self.now }
         requires needs { IsOwed O.step seat.old (λ v. J.needs job.old (acting seat.old.mine) v) }
-        ensures { Turned O.step (J.entries job.new) (λ v w. J.does job.old (acting seat.old.mine) v w job.new) seat.old seat.new }
+        ensures turned { Turned O.step (J.entries job.new) (λ v w. J.does job.old (acting seat.old.mine) v w job.new) seat.old seat.new }
+        ensures later { IsLater seat.old seat.new }
     {
         let board = &self.table.shared;
         let found = take(rt, board, &mut seat.inner);
@@ -91,7 +92,7 @@ impl<O: Object> Shared<O> {
     /// Takes in another seat, with its numbers and what they made. It takes no memory.
     pub fn join(&self, seat: &mut Seat<O>, other: Seat<O>)
         requires { (seat.old.home ≡ self.now) × (other.home ≡ self.now) }
-        ensures { Joined seat.old other seat.new }
+        ensures { Joined O.step seat.old other seat.new }
     {
         let SeatAt {
             inner,

@@ -1,4 +1,4 @@
-use Rattle.std.proofs.Common.{arith, sym, ap, ◌∙◌, subst}
+use Rattle.std.proofs.Common.{◌≡◌, Some, arith, sym, ap, ◌∙◌, subst}
 use Rattle.zot_turn.specs.Seats.{Home, Standing, Joined}
 use Rattle.zot_turn.specs.Views.{standing_of}
 use Rattle.zot_turn.proofs.Calling.{joined_rests, joined_seats}
@@ -26,7 +26,8 @@ pub invariant_of-seat : goal.invariant_of-seat
 invariant_of-seat g c =
     let seat = c.seat.inside in
     let other = c.other.inside in
-    joined_rests seat.inner.table_id seat.number seat.turns seat.inner.me c.seat.invariant other.number other.turns other.inner.me c.other.invariant c.join_seat.new.seat.me c.load-seat-inside.new.seat.me c.join_seat.ensures.2
+    let opening : c.seat.inside.inner.me.0.opening ≡ Some c.self.inside.table.shared.key.value = ap (λ (s : Standing g.row.O.Denot g.row.O-Entry.Denot). s.home.opening) c.seat.view_is ∙ ap (λ (h : Home g.row.O.Denot). h.opening) c.requires.0 ∙ sym (ap (λ (h : Home g.row.O.Denot). h.opening) c.self.view_is) in
+    joined_rests g.O.Object.step c.self.inside.table.shared.key.value seat.inner.table_id seat.number seat.turns seat.inner.me c.seat.invariant opening other.number other.turns other.inner.me c.other.invariant c.join_seat.new.seat.me c.load-seat-inside.new.seat.me c.join_seat.ensures.2
     c.self.inside.table.shared.table_id.slots c.load-seat-inside.result c.load-seat-inside.ensures.2 c.max-seat-inside.result c.max-seat-inside.ensures
 
 pub returns : goal.returns
@@ -35,7 +36,8 @@ returns g c =
     let other = c.other.inside in
     let mine = ap (λ (s : Standing g.row.O.Denot g.row.O-Entry.Denot). s.home.table) c.seat.view_is ∙ ap (λ (h : Home g.row.O.Denot). h.table) c.requires.0 in
     let theirs = ap (λ (s : Standing g.row.O.Denot g.row.O-Entry.Denot). s.home.table) c.other.view_is ∙ ap (λ (h : Home g.row.O.Denot). h.table) c.requires.1 in
+    let opening : c.seat.inside.inner.me.0.opening ≡ Some c.self.inside.table.shared.key.value = ap (λ (s : Standing g.row.O.Denot g.row.O-Entry.Denot). s.home.opening) c.seat.view_is ∙ ap (λ (h : Home g.row.O.Denot). h.opening) c.requires.0 ∙ sym (ap (λ (h : Home g.row.O.Denot). h.opening) c.self.view_is) in
     let last = c.load-seat-inside.new.seat in
-    subst (λ (p : Standing g.row.O.Denot g.row.O-Entry.Denot × Standing g.row.O.Denot g.row.O-Entry.Denot). Joined p.0 p.1 (standing_of last.table_id last.me.0)) (λ i. (c.seat.view_is i, c.other.view_is i))
-    (joined_seats seat.inner.table_id seat.number seat.turns seat.inner.me c.seat.invariant other.number other.turns other.inner.me c.other.invariant c.join_seat.new.seat.me last.me c.join_seat.ensures.2
+    subst (λ (p : Standing g.row.O.Denot g.row.O-Entry.Denot × Standing g.row.O.Denot g.row.O-Entry.Denot). Joined g.O.Object.step p.0 p.1 (standing_of last.table_id last.me.0)) (λ i. (c.seat.view_is i, c.other.view_is i))
+    (joined_seats g.O.Object.step c.self.inside.table.shared.key.value seat.inner.table_id seat.number seat.turns seat.inner.me c.seat.invariant opening other.number other.turns other.inner.me c.other.invariant c.join_seat.new.seat.me last.me c.join_seat.ensures.2
     c.self.inside.table.shared.table_id.slots c.load-seat-inside.result c.load-seat-inside.ensures.2 last.table_id other.inner.table_id (c.load-seat-inside.ensures.0 ∙ c.join_seat.ensures.0) (theirs ∙ sym mine))

@@ -1,7 +1,7 @@
 use Rattle.std.proofs.Common.{◌≡◌, ℕ, Some, sym, ap, ◌∙◌, subst}
 use Rattle.zot_turn.specs.Seats.{Home, Standing, IsOwed, Turned, acting}
 use Rattle.zot_turn.specs.Views.{standing_of}
-use Rattle.zot_turn.proofs.Calling.{has_number, acting_is, needed, may_give, rests_again, turned}
+use Rattle.zot_turn.proofs.Calling.{has_number, acting_is, needed, may_give, rests_again, turned, later_turned}
 use Rattle.zot_turn.proofs.shared.Shared.turn.Goals as goal
 
 pub take-found-requires-clause-acts : goal.take-found-requires-clause-acts
@@ -31,8 +31,8 @@ invariant_of-seat g c =
     rests_again g.O.Object.step c.self.inside.table.shared.key.value c.seat.inside.inner.table_id c.seat.inside.number c.seat.inside.turns me c.seat.invariant opening c.take-found.result c.take-found.new.seat.me c.take-found.ensures.taken c.lift-value.result c.lift-value.ensures.value.0
     (g.J.Job.entries c.run.new.self) c.run.new.value c.run.ensures.legal c.lift-value.new.seat.me c.lay.new.seat.me c.lift-value.ensures.value.1 c.lay.ensures.value c.give.new.seat.me c.give.ensures.given
 
-pub returns : goal.returns
-returns g c =
+pub returns-clause-turned : goal.returns-clause-turned
+returns-clause-turned g c =
     let me = c.seat.inside.inner.me in
     let number : ℕ = c.seat.inside.number in
     let place = c.give.ensures.seat.0 ∙ c.lay.ensures.seat.0 ∙ c.lift-value.ensures.seat.0 ∙ c.take-found.ensures.seat.0 in
@@ -42,3 +42,6 @@ returns g c =
     (turned g.O.Object.step c.self.inside.table.shared.key.value c.seat.inside.inner.table_id number c.seat.inside.turns me c.seat.invariant opening c.take-found.result c.take-found.new.seat.me c.take-found.ensures.taken c.lift-value.result c.lift-value.ensures.value.0
     (g.J.Job.entries c.run.new.self) c.run.new.value c.run.ensures.legal c.lift-value.new.seat.me c.lay.new.seat.me c.lift-value.ensures.value.1 c.lay.ensures.value c.give.new.seat.me c.give.ensures.given
     c.give.new.seat.table_id place (λ v w. g.J.Job.does c.args.job.now (acting me.0.mine) v w c.run.new.self) run)
+
+pub returns-clause-later : goal.returns-clause-later
+returns-clause-later g c = later_turned g.O.Object.step _ _ _ _ (returns-clause-turned g c)

@@ -1,0 +1,63 @@
+// A value that owns a seat of another shared value, and a job that takes a turn at that other in its own turn.
+ghost use Rattle.std.specs.Prelude.{◌≡◌};
+
+use super::counter::Raise;
+use crate::{Job, NoMemory, Object, SeatAt, Shared};
+use std::alloc::Global;
+use std::sync::Wait;
+
+/// What owns a seat of the shared number.
+#[derive(Drop)]
+pub struct Row {
+    pub seat: SeatAt<u64, u64>,
+}
+
+impl Object for Row {
+    type Entry = u64;
+
+    ghost use Rattle.zot_turn.specs.Seats.{IsLater};
+
+    // the seat only sees and makes more
+    ghost step = { λ old by entry new. IsLater old.seat new.seat };
+}
+
+/// Raises the number in a turn of the row's seat, and keeps the new one.
+#[derive(Drop)]
+pub struct Visit<'a, R> {
+    pub rt: &'a R,
+    pub numbers: &'a Shared<u64>,
+    pub made: u64,
+}
+
+impl<'a, R: Wait> Job<Row> for Visit<'a, R> {
+    ghost use Rattle.std.specs.Prelude.{◌≡◌, [], ◌∷◌};
+
+    ghost needs = { λ job by row. row.seat.home ≡ job.numbers.now };
+
+    ghost does = { λ job by before after done. done.numbers ≡ job.numbers };
+
+    ghost entries = { λ job. job.made ∷ [] };
+
+    fn run(&mut self, _by: u64, row: &mut Row) {
+        let mut job = Raise { made: 0 };
+        self.numbers.turn(self.rt, &mut row.seat, &mut job);
+        self.made = job.made;
+    }
+}
+
+/// Visits a shared row twice, closes it, and then closes the number with the row's seat.
+pub fn visited<R: Wait>(rt: &R, alloc: Global) -> Result<u64, NoMemory> {
+    let (numbers, mut seat) = Shared::new(alloc, 0u64)?;
+    let inner = numbers.split(rt, &mut seat)?;
+    let (rows, mut visitor) = Shared::new(alloc, Row { seat: inner })?;
+    let mut visit = Visit {
+        rt,
+        numbers: &numbers,
+        made: 0,
+    };
+    rows.turn(rt, &mut visitor, &mut visit);
+    rows.turn(rt, &mut visitor, &mut visit);
+    let Row { seat: inner } = rows.close(visitor);
+    numbers.join(&mut seat, inner);
+    Ok(numbers.close(seat))
+}
