@@ -1,12 +1,12 @@
 -- A seat gives the turn back, with the entries of its job.
 use Rattle.std.proofs.Common.{◌≡◌, ◌≢◌, ◌<◌, ◌≤◌, ◌+◌, ℕ, List, [], ◌∷◌, ◌++◌, Bool, true, false, cond, ltb, length, set, Option, Some, sym, refl, ap, ◌∙◌, subst, arith, append-nil, length-append, eq-eqb}
 use Rattle.std.specs.List.{AllByRecursion}
-use mathlib.Core.Option.{none, some}
-use Rattle.atomic_table.specs.Table.{State, Me, Step, Act, keeps, takes, gives, rest, Allows, Splits, Joins, Final, Seen, put_back}
+use mathlib.Core.Option.{some}
+use Rattle.atomic_table.specs.Table.{Me, gives, rest, Allows, put_back}
 use Rattle.zot_turn.specs.declared.known.Known.{Known}
 use Rattle.zot_turn.specs.History.{Replays, signed, history, entries_of, turns_of}
 use Rattle.zot_turn.specs.Seats.{numbers, acting, with_entries, HasOwn}
-use Rattle.zot_turn.specs.Steps.{times, once, blank, owned, Fits, Kept, HasNumber, Gives, MayGive, after_turn}
+use Rattle.zot_turn.specs.Steps.{times, once, blank, owned, Fits, Kept, HasNumber, MayGive, after_turn}
 use Rattle.zot_turn.proofs.Lists.{prefix_more, each_all, each_zip}
 use Rattle.zot_turn.proofs.Turns.{replays_append, history_push, entries_of-append, entries_of_signed, entries_of_others, turns_of-append, turns_of_other}
 use Rattle.zot_turn.proofs.Totals.{numbers_with, each_of_numbers}
@@ -72,7 +72,7 @@ module _ {O E : Type 0} (step : O → ℕ → E → O → Type 0) (origin : O) w
       }
 
   module _ (found new id slots : ℕ) (es : List E) (me : Me (Option O) (Known O E)) (may : MayGive step origin es found me) (two : new ≡ found + 2) where
-    pub gives_turn : Allows (Kept step origin) slots id me 0 (λ _. new) (Gives es (Rattle.atomic_table.specs.Table.step slots 0 new 0 none) me)
+    pub gives_turn : Allows (Kept step origin) slots id me 0 (λ _. new) (λ _ now. now ≡ (after_turn es me.0, rest me.1))
     gives_turn s k long at fits =
         let f = k.known id me.0 at in
         let n : ℕ = acting me.0.mine in

@@ -8,7 +8,7 @@ use Rattle.std.specs.Prelude.{None, Some}
 use mathlib.Core.Option as maybe
 use mathlib.Core.List.{IsPrefix}
 use lib.ListN.{get_elem?}
-use Rattle.atomic_table.specs.Table.{State, Me, Step, rest}
+use Rattle.atomic_table.specs.Table.{State, Me, Step}
 use Rattle.atomic_table.specs.Seated.{TableId}
 use Rattle.zot_turn.specs.declared.known.Known.{Known}
 use Rattle.zot_turn.specs.History.{Replays, signed, history, turns_of}
@@ -99,10 +99,6 @@ TakesOrNot step s me found now = MatchBool (found == s.first) (Takes step found 
 abbrev pub after_turn : {O E : Type 0} → List E → Known O E → Known O E
 after_turn es v = record v { turns = v.turns ++ (acting v.mine, es) ∷ []; mine = with_entries es v.mine; holding = false }
 
--- the turn was given back with these entries
-abbrev pub Gives : {O E : Type 0} → List E → Step (Option O) → Me (Option O) (Known O E) → ℕ → Me (Option O) (Known O E) → Type 0
-Gives es s me found now = now ≡ (after_turn es me.0, rest me.1)
-
 -- the turns so far were counted
 abbrev pub Looks : {O E : Type 0} → Step (Option O) → Me (Option O) (Known O E) → ℕ → Me (Option O) (Known O E) → Type 0
 Looks s me found now = now ≡ (record me.0 { shown = max me.0.shown (found / 2) }, me.1)
@@ -126,6 +122,10 @@ taker v = record { opening = v.opening; turns = v.turns; told = []; mine = blank
 -- the seat that takes in another
 abbrev pub joined : {O E : Type 0} → Known O E → Known O E → Known O E
 joined v w = record { opening = v.opening; turns = longer v.turns w.turns; told = shorter v.turns w.turns; mine = v.mine ++ w.mine; gave = v.gave ++ w.gave; ready = v.ready ++ w.ready; shown = max v.shown w.shown; holding = v.holding }
+
+-- the same, with these of the two beginnings as what was seen and what is told
+abbrev pub joined_by : {O E : Type 0} → (List (ℕ × List E) → List (ℕ × List E) → List (ℕ × List E)) → (List (ℕ × List E) → List (ℕ × List E) → List (ℕ × List E)) → Known O E → Known O E → Known O E
+joined_by seen told v w = record (joined v w) { turns = seen v.turns w.turns; told = told v.turns w.turns }
 
 -- the seat that was taken in
 abbrev pub spent_known : {O E : Type 0} → Known O E

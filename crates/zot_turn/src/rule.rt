@@ -41,9 +41,11 @@ pub(crate) struct Give<M> {
 }
 
 impl<O, E, M: Made<E>> Play<Option<O>, Known<O, E>> for Give<M> {
-    ghost use Rattle.zot_turn.specs.Steps.{Gives};
+    ghost use Rattle.std.specs.Prelude.{◌≡◌};
+    ghost use Rattle.atomic_table.specs.Table.{rest};
+    ghost use Rattle.zot_turn.specs.Steps.{after_turn};
 
-    ghost then = { Gives M.made };
+    ghost then = { λ s me found now. now ≡ (after_turn M.made me.0, rest me.1) };
 }
 
 pub(crate) struct Draw;
@@ -83,9 +85,10 @@ impl<O, E> Split<Known<O, E>> for Part {
 pub(crate) struct Both;
 
 impl<O, E> Join<Known<O, E>> for Both {
-    ghost use Rattle.zot_turn.specs.Steps.{joined, spent_known};
+    ghost use Rattle.zot_turn.specs.Seats.{longer, shorter};
+    ghost use Rattle.zot_turn.specs.Steps.{joined_by, spent_known};
 
-    ghost both = { joined };
+    ghost both = { joined_by longer shorter };
 
     ghost spent = { spent_known };
 }

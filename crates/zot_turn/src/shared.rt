@@ -102,7 +102,8 @@ impl<O: Object> Shared<O> {
         let board = &self.table.shared;
         board.join_seat::<Both>(&mut seat.inner, inner);
         board.load::<Settle>(&mut seat.inner, 0);
-        seat.turns = seat.turns.max(turns);
+        let most = seat.turns.max(turns);
+        seat.turns = most;
     }
 
     /// Returns after a turn by another seat that this seat hadn't seen: a look has shown more turns than it has seen.
