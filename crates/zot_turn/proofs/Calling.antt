@@ -10,7 +10,7 @@ use Rattle.zot_turn.specs.History.{Replays, signed, history, entries_of}
 use Rattle.zot_turn.specs.Seats.{numbers, acting, with_entries, HasOwn, longer, shorter}
 use Rattle.zot_turn.specs.Steps.{times, blank, Kept, HasNumber, Takes, MayGive, after_turn, Drawn, Settles, giver, taker, joined}
 use Rattle.zot_turn.proofs.Lists.{prefix_refl, each_append, each_left}
-use Rattle.zot_turn.proofs.Turns.{replays_append, history_push}
+use Rattle.zot_turn.proofs.Turns.{history-append, replays_append, history_push}
 use Rattle.zot_turn.proofs.Totals.{numbers_with, times-append, times_first, times_contained, numbers-append}
 use Rattle.zot_turn.proofs.Changes.{times_owned}
 use Rattle.atomic_table.specs.Seated.{TableId}
@@ -102,6 +102,7 @@ module _ {O E : Type 0} (step : O → ℕ → E → O → Type 0) (origin : O) (
           before = value;
           after = after;
           known = refl;
+          seen_is = long_history ∙ ap (λ (h : List (ℕ × E)). h ++ signed (acting me.0.mine) es) (history-append me.0.turns t.others);
           elsewhere = t.elsewhere;
           stood = stands;
           run = run;

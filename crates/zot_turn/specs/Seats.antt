@@ -59,6 +59,7 @@ pub record Turned {O E : Type 0} (step : O → ℕ → E → O → Type 0) (es :
   pub before : O
   pub after : O
   pub known : new ≡ record old { turns = (old.turns ++ others) ++ (acting old.mine, es) ∷ []; mine = with_entries es old.mine }
+  pub seen_is : seen new ≡ (seen old ++ history others) ++ signed (acting old.mine) es
   pub elsewhere : Elsewhere old.mine others
   pub stood : Stands step old.home (history (old.turns ++ others)) before
   pub run : ran before after

@@ -1,4 +1,7 @@
 // A seat: what one thread takes its turns with.
+ghost use Rattle.std.specs.Prelude.{◌≡◌};
+ghost use Rattle.zot_turn.specs.Seats.{acting};
+
 use crate::known::Known;
 use crate::object::Object;
 use std::marker::Model;
@@ -26,4 +29,13 @@ impl<O, E> Model for SeatAt<O, E> {
     ghost view = { λ s. standing_of s.inner.table_id s.inner.me.0 };
 
     ghost invariant = { λ s. IsAtRest s.number s.turns s.inner.me };
+}
+
+impl<O, E> SeatAt<O, E> {
+    /// The number that the seat acts in: its own from the start, whatever was joined into it.
+    pub fn number(&self) -> u64
+        ensures { result ≡ acting self.now.mine }
+    {
+        self.number
+    }
 }

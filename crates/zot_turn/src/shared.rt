@@ -58,7 +58,7 @@ impl<O: Object + Drop> Shared<O> {
 
 impl<O: Object> Shared<O> {
     /// Waits for the value, runs the job on it once and puts it back. It takes no memory of its own.
-    pub fn turn<R: Wait, J: Job<O>>(&self, rt: &R, seat: &mut Seat<O>, job: &mut J)
+    pub fn turn<J: Job<O>>(&self, rt: &impl Wait, seat: &mut Seat<O>, job: &mut J)
         requires seat { seat.old.home ≡ self.now }
         requires needs { IsOwed O.step seat.old (λ v. J.needs job.old (acting seat.old.mine) v) }
         ensures turned { Turned O.step (J.entries job.new) (λ v w. J.does job.old (acting seat.old.mine) v w job.new) seat.old seat.new }
@@ -74,7 +74,7 @@ impl<O: Object> Shared<O> {
     }
 
     /// Gives a new seat with a number of its own, which has seen as much. It takes no memory, so it answers `Ok`. Where others split too it tries again, and where no number is left it waits for ever.
-    pub fn split<R: Wait>(&self, rt: &R, seat: &mut Seat<O>) -> Result<Seat<O>, NoMemory>
+    pub fn split(&self, rt: &impl Wait, seat: &mut Seat<O>) -> Result<Seat<O>, NoMemory>
         requires { seat.old.home ≡ self.now }
         ensures given { IsOk result }
         ensures parted { IfOk result (λ new. Parted seat.old seat.new new) }
@@ -107,7 +107,7 @@ impl<O: Object> Shared<O> {
     }
 
     /// Returns after a turn by another seat that this seat hadn't seen: a look has shown more turns than it has seen.
-    pub fn wait_change<R: Wait>(&self, rt: &R, seat: &mut Seat<O>)
+    pub fn wait_change(&self, rt: &impl Wait, seat: &mut Seat<O>)
         requires { seat.old.home ≡ self.now }
         ensures shown { length seat.old.turns < seat.new.shown }
         ensures same { seat.new ≡ record seat.old { shown = seat.new.shown } }

@@ -28,6 +28,6 @@ fn an_object_of_another_kind(rt: HostRuntime) -> Result<(), Fail> {
 
 #[test]
 fn a_value_owns_a_seat_of_another(rt: HostRuntime) -> Result<(), Fail> {
-    assert_eq!(rt; visited(&rt, rt.alloc())?, 2);
+    assert_eq!(rt; visited(&rt, rt.alloc())?, (1, 2));
     Ok(())
 }

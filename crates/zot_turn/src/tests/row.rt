@@ -45,8 +45,8 @@ impl<'a, R: Wait> Job<Row> for Visit<'a, R> {
     }
 }
 
-/// Visits a shared row twice, closes it, and then closes the number with the row's seat.
-pub fn visited<R: Wait>(rt: &R, alloc: Global) -> Result<u64, NoMemory> {
+/// Visits a shared row twice, closes it, and then closes the number with the row's seat. Gives that seat's number too.
+pub fn visited<R: Wait>(rt: &R, alloc: Global) -> Result<(u64, u64), NoMemory> {
     let (numbers, mut seat) = Shared::new(alloc, 0u64)?;
     let inner = numbers.split(rt, &mut seat)?;
     let (rows, mut visitor) = Shared::new(alloc, Row { seat: inner })?;
@@ -58,6 +58,7 @@ pub fn visited<R: Wait>(rt: &R, alloc: Global) -> Result<u64, NoMemory> {
     rows.turn(rt, &mut visitor, &mut visit);
     rows.turn(rt, &mut visitor, &mut visit);
     let Row { seat: inner } = rows.close(visitor);
+    let by = inner.number();
     numbers.join(&mut seat, inner);
-    Ok(numbers.close(seat))
+    Ok((by, numbers.close(seat)))
 }
