@@ -1,15 +1,14 @@
 -- For the tests: a number that each step raises by one, turns of two numbers, and a seat that is alone.
-use Rattle.std.proofs.Common.{◌≡◌, ◌≢◌, ◌==◌, ◌<◌, ◌+◌, ◌%◌, ◌^◌, ℕ, zero, suc, List, [], ◌∷◌, ◌++◌, Bool, cond, map, length, get_or, Option, Some, IsSomeAnd, Contains, sym, refl, ap, ◌∙◌, subst, arith, mod-eq_of_lt, append-nil, length-append, eq-eqb}
+use Rattle.std.proofs.Common.{◌≡◌, ◌≢◌, ◌==◌, ◌<◌, ◌+◌, ◌%◌, ◌^◌, ℕ, zero, suc, List, [], ◌∷◌, ◌++◌, Bool, cond, map, length, get_or, Contains, sym, refl, ap, ◌∙◌, subst, arith, mod-eq_of_lt, append-nil, length-append, eq-eqb}
 use Rattle.std.specs.List.{AllByRecursion}
 use Rattle.std.proofs.lemmas.List.{length-map}
 use mathlib.Core.Logic.{dite}
 use native.Mathlib.Decide.{ℕ_discrete}
 use Rattle.zot_turn.specs.History.{Replays, signed, history, entries_of, turns_of}
-use Rattle.zot_turn.specs.Seats.{Home, Standing, Stands, Turned, IsLater, HasAll, HasOwn, numbers, seen}
+use Rattle.zot_turn.specs.Seats.{Home, Standing, Turned, Parted, Joined, IsLater, HasAll, HasOwn, numbers, seen}
 use Rattle.zot_turn.proofs.Turns.{entries_of-append, entries_of_signed, entries_of_others}
-use Rattle.zot_turn.proofs.Totals.{times_contained, contained_times, times_rest, times_more}
+use Rattle.zot_turn.proofs.Totals.{times_contained, contained_times, times_rest, times_more, numbers-append}
 use Rattle.zot_turn.proofs.Lists.{each_left}
-use Rattle.zot_turn.proofs.Carried.{inner_later}
 
 -- steps that raise a number by one and have the new one as their entry
 module _ (step : ℕ → ℕ → ℕ → ℕ → Type 0) (raises : (a n e b : ℕ) → step a n e b → (b ≡ (a + 1) % 2 ^ 64) × (e ≡ b)) where
@@ -82,15 +81,6 @@ module _ {E : Type 0} where
       let its = subst (λ (m : List (ℕ × List E)). HasOwn m (history turns)) is own in
       of_two given apart turns (subst (λ (m : List (ℕ × List E)). AllByRecursion (λ t. Contains (numbers m) t.0) turns) is all) ∙ (λ i. length (its.0 i) + length (its.1.0 i))
 
--- what stands for a value that was opened with a known one
-pub from_opening : {O E : Type 0} (step : O → ℕ → E → O → Type 0) (home : Home O) (opening value : O) (es : List (ℕ × E)) → home.opening ≡ Some opening → Stands step home es value → Replays step opening es value
-from_opening {O} {E} step home opening value es is stands = subst (λ (o : Option O). IsSomeAnd o (λ v. Replays step v es value)) is stands
-
--- where a value that owns a seat stands, that seat is the one that it opened with, later
-pub stands_later : {V X O E : Type 0} (step : V → ℕ → X → V → Type 0) (seat : V → Standing O E) → ((a b : V) (n : ℕ) (e : X) → step a n e b → IsLater (seat a) (seat b))
-    → (home : Home V) (opening value : V) (es : List (ℕ × X)) → home.opening ≡ Some opening → Stands step home es value → IsLater (seat opening) (seat value)
-stands_later step seat each home opening value es is stands = inner_later step seat each opening value es (from_opening step home opening value es is stands)
-
 module _ {O E : Type 0} (step : O → ℕ → E → O → Type 0) where
   -- a seat that has done nothing yet
   abbrev pub newcomer : Home O → Standing O E
@@ -112,3 +102,24 @@ all_there s given its gave = (
   subst (λ (ns : List ℕ). Contains ns 0) (sym its) (zero, omega arith, refl),
   λ n h. subst (λ (ns : List ℕ). Contains ns n) (sym its) (contained_times n (0 ∷ given ∷ []) (omega (arith, times_contained n (given ∷ []) (subst (λ (ns : List ℕ). Contains ns n) gave h), times_more n 0 (given ∷ [])))),
 )
+
+-- a first seat that was split once, and later took in the seat that it gave, has every number
+pub record Paired {O E : Type 0} (home : Home O) (s : Standing O E) : Type 0 where
+  pub all : HasAll s
+  pub there : s.home ≡ home
+
+pub paired : {O E : Type 0} (step : O → ℕ → E → O → Type 0) (home : Home O) (first kept given mine theirs both : Standing O E) → first ≡ newcomer step home → Parted first kept given → IsLater kept mine → IsLater given theirs → Joined step mine theirs both → Paired home both
+paired {O} {E} step home first kept given mine theirs both new p a b j =
+    let k : ℕ = p.number in
+    let kept_is : kept ≡ record (newcomer step home) { gave = k ∷ [] } = p.kept ∙ ap (λ (s : Standing O E). record s { gave = s.gave ++ k ∷ [] }) new in
+    let given_is : given ≡ record (newcomer step home) { mine = (k, []) ∷ [] } = p.given_is ∙ ap (λ (s : Standing O E). record s { mine = (k, []) ∷ []; gave = [] }) new in
+    let mine_numbers : numbers mine.mine ≡ 0 ∷ [] = a.numbers ∙ ap (λ (s : Standing O E). numbers s.mine) kept_is in
+    let their_numbers : numbers theirs.mine ≡ k ∷ [] = b.numbers ∙ ap (λ (s : Standing O E). numbers s.mine) given_is in
+    let mine_gave : mine.gave ≡ k ∷ [] = a.gave ∙ ap (λ (s : Standing O E). s.gave) kept_is in
+    let their_gave : theirs.gave ≡ [] = b.gave ∙ ap (λ (s : Standing O E). s.gave) given_is in
+    record {
+      all = all_there both k
+          (ap (λ (s : Standing O E). numbers s.mine) j.known ∙ numbers-append mine.mine theirs.mine ∙ (λ i. mine_numbers i ++ their_numbers i))
+          (ap (λ (s : Standing O E). s.gave) j.known ∙ (λ i. mine_gave i ++ their_gave i));
+      there = ap (λ (s : Standing O E). s.home) j.known ∙ a.home ∙ ap (λ (s : Standing O E). s.home) kept_is;
+    }

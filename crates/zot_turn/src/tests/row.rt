@@ -1,10 +1,13 @@
 // A value that owns a seat of another shared value, and a job that takes a turn at that other in its own turn.
-ghost use Rattle.std.specs.Prelude.{◌≡◌};
+ghost use Rattle.std.specs.Prelude.{◌≡◌, IsSomeAnd};
+ghost use Rattle.zot_turn.specs.Seats.{IsLater};
 
 use super::counter::Raise;
-use crate::{Job, NoMemory, Object, SeatAt, Shared};
+use crate::{Job, NoMemory, Object, Seat, SeatAt, Shared};
 use std::alloc::Global;
 use std::sync::Wait;
+use std::thread;
+use std::thread::Threads;
 
 /// What owns a seat of the shared number.
 #[derive(Drop)]
@@ -45,18 +48,45 @@ impl<'a, R: Wait> Job<Row> for Visit<'a, R> {
     }
 }
 
-/// Visits a shared row twice, closes it, and then closes the number with the row's seat. Gives that seat's number too.
-pub fn visited<R: Wait>(rt: &R, alloc: Global) -> Result<(u64, u64), NoMemory> {
-    let (numbers, mut seat) = Shared::new(alloc, 0u64)?;
-    let inner = numbers.split(rt, &mut seat)?;
-    let (rows, mut visitor) = Shared::new(alloc, Row { seat: inner })?;
+// Visits the row once.
+fn visit_once<R: Wait>(
+    rt: &R,
+    rows: &Shared<Row>,
+    numbers: &Shared<u64>,
+    mut visitor: Seat<Row>,
+) -> Seat<Row>
+    requires home { visitor.home ≡ rows.now }
+    requires inner { IsSomeAnd visitor.home.opening (λ row. row.seat.home ≡ numbers.now) }
+    ensures { IsLater visitor result }
+{
     let mut visit = Visit {
         rt,
-        numbers: &numbers,
+        numbers,
         made: 0,
     };
     rows.turn(rt, &mut visitor, &mut visit);
-    rows.turn(rt, &mut visitor, &mut visit);
+    visitor
+}
+
+/// Two threads visit a shared row, which is then closed, and the number with the row's seat. Gives that seat's number too.
+pub fn visited<R: Threads + Wait + Sync>(rt: &R, alloc: Global) -> Result<(u64, u64), NoMemory> {
+    let (numbers, mut seat) = Shared::new(alloc, 0u64)?;
+    let inner = numbers.split(rt, &mut seat)?;
+    let (rows, mut visitor) = Shared::new(alloc, Row { seat: inner })?;
+    let other = rows.split(rt, &mut visitor)?;
+    let (all, below) = (&rows, &numbers);
+    let (mut visitor, other) = thread::join(
+        rt,
+        move || -> Seat<Row>
+            requires { (visitor.home ≡ all.now) × IsSomeAnd visitor.home.opening (λ row. row.seat.home ≡ below.now) }
+            ensures { IsLater visitor result }
+        { visit_once(rt, all, below, visitor) },
+        move || -> Seat<Row>
+            requires { (other.home ≡ all.now) × IsSomeAnd other.home.opening (λ row. row.seat.home ≡ below.now) }
+            ensures { IsLater other result }
+        { visit_once(rt, all, below, other) },
+    );
+    rows.join(&mut visitor, other);
     let Row { seat: inner } = rows.close(visitor);
     let by = inner.number();
     numbers.join(&mut seat, inner);

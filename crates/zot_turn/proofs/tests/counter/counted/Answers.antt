@@ -1,6 +1,7 @@
 use Rattle.std.proofs.Common.{ℕ, arith, ap, ◌∙◌}
 use Rattle.zot_turn.specs.Seats.{Home, seen}
-use Rattle.zot_turn.proofs.Counting.{raised, in_order, count_of_two, from_opening}
+use Rattle.zot_turn.proofs.Carried.{from_opening}
+use Rattle.zot_turn.proofs.Counting.{raised, in_order, count_of_two}
 use Rattle.zot_turn.proofs.tests.counter.counted.Goals as goal
 
 pub returns-clause-count : goal.returns-clause-count

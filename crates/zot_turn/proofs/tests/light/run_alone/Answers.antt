@@ -1,7 +1,8 @@
 use Rattle.std.proofs.Common.{ℕ, List, ap, ◌∙◌, subst}
 use Rattle.zot_turn.specs.History.{Replays}
 use Rattle.zot_turn.specs.Seats.{Home, Standing, Turned, acting, seen}
-use Rattle.zot_turn.proofs.Counting.{from_opening, alone}
+use Rattle.zot_turn.proofs.Carried.{from_opening}
+use Rattle.zot_turn.proofs.Counting.{alone}
 use Rattle.zot_turn.proofs.tests.light.run_alone.Goals as goal
 
 pub returns : goal.returns
