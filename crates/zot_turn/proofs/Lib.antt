@@ -1,0 +1,15 @@
+pub mod Lists
+pub mod Turns
+pub mod Totals
+pub mod Changes
+pub mod Opening
+pub mod Taking
+pub mod Giving
+pub mod Drawing
+pub mod Looking
+pub mod Parting
+pub mod Joining
+pub mod Closing
+pub mod Calling
+pub mod Carried
+pub mod Counting

@@ -1,0 +1,52 @@
+-- The rule at the start.
+use Rattle.std.proofs.Common.{◌≡◌, ◌≢◌, ◌+◌, ℕ, zero, suc, [], ◌∷◌, false, ltb, Some, sym, refl, ap, subst, arith, lt-ltb, le-ltb}
+use mathlib.Core.Logic.{dite}
+use mathlib.Core.Option.{some, some-injective, some-ne-none}
+use native.Mathlib.Decide.{ℕ_discrete}
+use lib.ListN.{get_elem?}
+use Rattle.atomic_table.specs.Table.{opening}
+use Rattle.zot_turn.specs.declared.known.Known.{Known}
+use Rattle.zot_turn.specs.Steps.{times, once, Fits, Kept, first_known}
+use Rattle.zot_turn.proofs.Lists.{prefix_refl}
+use Rattle.zot_turn.proofs.Totals.{times_one, times_other}
+use Rattle.zot_turn.proofs.Changes.{never}
+
+module _ {O E : Type 0} (step : O → ℕ → E → O → Type 0) (origin : O) where
+  fits_first : Fits origin [] 1 (first_known {E = E} origin)
+  fits_first = record {
+    opening = λ o e. cc e;
+    seen = prefix_refl [];
+    told = prefix_refl [];
+    whole = (refl, tt);
+    own = (refl, tt);
+    given = tt;
+    shown = omega arith;
+    holds = λ h. never h;
+    acts = λ h. never h;
+  }
+
+  below_one : (n : ℕ) → times n (0 ∷ []) + 0 ≡ once (ltb n 1)
+  below_one n = dite (ℕ_discrete 0 n)
+      (λ (e : 0 ≡ n). let a : times n (0 ∷ []) ≡ 1 = subst (λ (m : ℕ). times n (m ∷ []) ≡ 1) (sym e) (times_one n) in let b : once (ltb n 1) ≡ 1 = ap once (lt-ltb n 1 (omega arith)) in omega (arith, a, b))
+      (λ (ne : 0 ≢ n). let a : times n (0 ∷ []) ≡ 0 = times_other n 0 ne in let b : once (ltb n 1) ≡ 0 = ap once (le-ltb n 1 (omega arith)) in omega (arith, a, b))
+
+  pub opens : Kept step origin (opening (0 ∷ 1 ∷ []) (Some origin ∷ []) (first_known {E = E} origin))
+  opens = record {
+    log = [];
+    value = origin;
+    held = false;
+    drawn = 1;
+    words = refl;
+    legal = refl;
+    slot = refl;
+    known = one;
+    apart = below_one;
+    recorded = λ n l ne. absurd (ne (omega arith));
+    undrawn = λ n l. refl;
+    zero_drawn = omega arith;
+    holder = refl;
+  }
+    where
+      one : (id : ℕ) (v : Known O E) → get_elem? (first_known {E = E} origin ∷ []) id ≡ some v → Fits origin [] 1 v
+      one zero v e = subst (Fits origin [] 1) (some-injective _ _ e) fits_first
+      one (suc id) v e = absurd (some-ne-none v (sym e))

@@ -1,0 +1,28 @@
+use Rattle.std.proofs.Common.{Option, arith, sym, ◌∙◌, subst}
+use Rattle.atomic_table.specs.Table.{Me}
+use Rattle.zot_turn.specs.declared.known.Known.{Known}
+use Rattle.zot_turn.specs.Steps.{Drawn, HasNumber}
+use Rattle.zot_turn.proofs.Drawing.{draws_number, drew, not_drawn}
+use Rattle.zot_turn.proofs.steps.draw.Goals as goal
+
+pub compare_exchange-found-requires : goal.compare_exchange-found-requires
+compare_exchange-found-requires g c =
+    let i = c.loop.invariant in
+    let acts = subst (λ (m : Me (Option g.row.O.Denot) (Known g.row.O.Denot g.row.O-Entry.Denot)). HasNumber m.0.mine) (sym i.2) c.requires.acts in
+    (i.0 ∙ c.requires.board.0, omega (arith, c.requires.board.1), draws_number g.O.Object.step c.args.board.now.key.value c.peek-count.result c.loop.seat.id c.args.board.now.table_id.slots c.loop.seat.me acts)
+
+pub returns-then-found-count-clause-drawn : goal.returns-then-found-count-clause-drawn
+returns-then-found-count-clause-drawn g c =
+    let i = c.loop.invariant in
+    let acts = subst (λ (m : Me (Option g.row.O.Denot) (Known g.row.O.Denot g.row.O-Entry.Denot)). HasNumber m.0.mine) (sym i.2) c.requires.acts in
+    let now = c.compare_exchange-found.new.seat.me in
+    subst (λ (m : Me (Option g.row.O.Denot) (Known g.row.O.Denot g.row.O-Entry.Denot)). Drawn c.peek-count.result m now) i.2
+    (drew g.O.Object.step c.args.board.now.key.value c.peek-count.result c.loop.seat.id c.args.board.now.table_id.slots c.loop.seat.me acts c.compare_exchange-found.result now c.if-found-count.true c.compare_exchange-found.ensures.2)
+
+pub loop-preserved-else-found-count : goal.loop-preserved-else-found-count
+loop-preserved-else-found-count g c =
+    let i = c.loop.invariant in
+    let e = c.compare_exchange-found.ensures in
+    let acts = subst (λ (m : Me (Option g.row.O.Denot) (Known g.row.O.Denot g.row.O-Entry.Denot)). HasNumber m.0.mine) (sym i.2) c.requires.acts in
+    let same = not_drawn g.O.Object.step c.args.board.now.key.value c.peek-count.result c.loop.seat.id c.args.board.now.table_id.slots c.loop.seat.me acts c.compare_exchange-found.result c.compare_exchange-found.new.seat.me c.if-found-count.false e.2 in
+    (e.0 ∙ i.0, e.1 ∙ i.1, same ∙ i.2)

@@ -1,0 +1,94 @@
+// A value that owns a seat of another shared value, and a job that takes a turn at that other in its own turn.
+ghost use Rattle.std.specs.Prelude.{◌≡◌, IsSomeAnd};
+ghost use Rattle.zot_turn.specs.Seats.{IsLater};
+
+use super::counter::Raise;
+use crate::{Job, NoMemory, Object, Seat, SeatAt, Shared};
+use std::alloc::Global;
+use std::sync::Wait;
+use std::thread;
+use std::thread::Threads;
+
+/// What owns a seat of the shared number.
+#[derive(Drop)]
+pub struct Row {
+    pub seat: SeatAt<u64, u64>,
+}
+
+impl Object for Row {
+    type Entry = u64;
+
+    ghost use Rattle.zot_turn.specs.Seats.{IsLater};
+
+    // the seat only sees and makes more
+    ghost step = { λ old by entry new. IsLater old.seat new.seat };
+}
+
+/// Raises the number in a turn of the row's seat, and keeps the new one.
+#[derive(Drop)]
+pub struct Visit<'a, R> {
+    pub rt: &'a R,
+    pub numbers: &'a Shared<u64>,
+    pub made: u64,
+}
+
+impl<'a, R: Wait> Job<Row> for Visit<'a, R> {
+    ghost use Rattle.std.specs.Prelude.{◌≡◌, [], ◌∷◌};
+
+    ghost needs = { λ job by row. row.seat.home ≡ job.numbers.now };
+
+    ghost does = { λ job by before after done. done.numbers ≡ job.numbers };
+
+    ghost entries = { λ job. job.made ∷ [] };
+
+    fn run(&mut self, _by: u64, row: &mut Row) {
+        let mut job = Raise { made: 0 };
+        self.numbers.turn(self.rt, &mut row.seat, &mut job);
+        self.made = job.made;
+    }
+}
+
+// Visits the row once.
+fn visit_once<R: Wait>(
+    rt: &R,
+    rows: &Shared<Row>,
+    numbers: &Shared<u64>,
+    mut visitor: Seat<Row>,
+) -> Seat<Row>
+    requires home { visitor.home ≡ rows.now }
+    requires inner { IsSomeAnd visitor.home.opening (λ row. row.seat.home ≡ numbers.now) }
+    ensures { IsLater visitor result }
+{
+    let mut visit = Visit {
+        rt,
+        numbers,
+        made: 0,
+    };
+    rows.turn(rt, &mut visitor, &mut visit);
+    visitor
+}
+
+/// Two threads visit a shared row, which is then closed, and the number with the row's seat. Gives that seat's number too.
+pub fn visited<R: Threads + Wait + Sync>(rt: &R, alloc: Global) -> Result<(u64, u64), NoMemory> {
+    let (numbers, mut seat) = Shared::new(alloc, 0u64)?;
+    let inner = numbers.split(rt, &mut seat)?;
+    let (rows, mut visitor) = Shared::new(alloc, Row { seat: inner })?;
+    let other = rows.split(rt, &mut visitor)?;
+    let (all, below) = (&rows, &numbers);
+    let (mut visitor, other) = thread::join(
+        rt,
+        move || -> Seat<Row>
+            requires { (visitor.home ≡ all.now) × IsSomeAnd visitor.home.opening (λ row. row.seat.home ≡ below.now) }
+            ensures { IsLater visitor result }
+        { visit_once(rt, all, below, visitor) },
+        move || -> Seat<Row>
+            requires { (other.home ≡ all.now) × IsSomeAnd other.home.opening (λ row. row.seat.home ≡ below.now) }
+            ensures { IsLater other result }
+        { visit_once(rt, all, below, other) },
+    );
+    rows.join(&mut visitor, other);
+    let Row { seat: inner } = rows.close(visitor);
+    let by = inner.number();
+    numbers.join(&mut seat, inner);
+    Ok((by, numbers.close(seat)))
+}
