@@ -4,6 +4,8 @@ ghost use Rattle.std.specs.FinMap as map;
 ghost use Rattle.zot_model.specs.State.{Becomes, empty_row, fresh, repo_at};
 ghost use Rattle.zot_model.specs.Plain.{with_blob};
 ghost use Rattle.zot_model.specs.History.{Step};
+ghost use Rattle.zot_model.specs.declared.row.RowCall.TheVariants.{Ask};
+ghost use Rattle.zot_model.specs.declared.row.RowReply.TheVariants as answers;
 ghost use Rattle.zot_repo.specs.Replies.{GivesBlob, MayReply, TakesBlob};
 
 use crate::blobs::Blobs;
@@ -47,9 +49,9 @@ impl RepoShard {
         RowReply::Reply(self.ask(alloc, call.request()))
     }
 
-    // The reply to a request.
-    fn ask(&mut self, alloc: Global, request: &Request) -> Reply
-        ensures { MayReply 0 self.old request.now result self.new }
+    /// The reply to a request that was lent, which is `step` on the call that asks it.
+    pub fn ask(&mut self, alloc: Global, request: &Request) -> Reply
+        ensures { Step self.old (record { call = Ask request.now; moment = 0; answer = answers.Reply result; faults = self.new.faults }) self.new }
     {
         match &request.call {
             Call::GetBlob(digest) => self.get_blob(alloc, &request.name, digest),

@@ -1,9 +1,8 @@
 -- What a read of the source in memory does.
-use Rattle.std.proofs.Common.{◌≡◌, ℕ, ◌+◌, ◌-◌, ◌<◌, ◌≤◌, List, [], ◌∷◌, ◌++◌, length, take, drop, min, Some, refl, sym, ap, ◌∙◌, arith, slice_range}
+use Rattle.std.proofs.Common.{◌≡◌, ℕ, ◌+◌, ◌-◌, ◌<◌, ◌≤◌, List, ◌++◌, length, take, drop, min, Some, refl, sym, ap, ◌∙◌, arith, slice_range}
 use Rattle.std.proofs.lemmas.List.{drop_all, drop-drop, length-drop, length-take, take-append-drop}
-use Rattle.std.proofs.lemmas.Grind.{common_steps}
 use Rattle.std.proofs.Math.Seq.{take-append_seam}
-use Rattle.zot_session.specs.Outside.{Reads, IsOver, Takes}
+use Rattle.zot_session.specs.Outside.{Reads}
 
 -- a read of a piece that is the first part of what is left
 pub fake_read : (bytes : List ℕ) (start n room size : ℕ) (rest piece : List ℕ) → start ≤ length bytes → n ≡ min (min room size) (length bytes - start) → 0 < size

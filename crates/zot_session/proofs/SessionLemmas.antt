@@ -1,15 +1,14 @@
 -- A session so far, turn by turn.
-use Rattle.std.proofs.Common.{◌≡◌, ℕ, ◌+◌, ◌-◌, ◌*◌, ◌<◌, ◌≤◌, true, false, List, [], ◌∷◌, ◌++◌, length, drop, map, Option, Some, None, inl, inr, refl, sym, ap, ◌∙◌, subst, arith}
+use Rattle.std.proofs.Common.{◌≡◌, ℕ, ◌+◌, ◌-◌, ◌*◌, ◌<◌, ◌≤◌, true, List, [], ◌∷◌, ◌++◌, length, drop, map, Option, Some, None, inl, inr, refl, sym, ap, ◌∙◌, subst, arith}
 use Rattle.std.proofs.lemmas.List.{append_assoc, append-nil, length-append, length-drop}
 use Rattle.zot_model.specs.declared.reply.Reply.{Reply}
 use Rattle.zot_model.specs.declared.request.Request.{Request}
 use Rattle.zot_session.specs.declared.end.End.{End}
 use Rattle.zot_session.specs.declared.end.End.TheVariants as ends
-use Rattle.zot_session.specs.declared.front.Message.{Message}
 use Rattle.zot_session.specs.declared.front.Front.TheVariants.{Closing, Partial}
 use Rattle.zot_session.specs.Front.{Messages, front_of}
 use Rattle.zot_session.specs.Outside.{Appends, IsOver, Takes}
-use Rattle.zot_session.specs.Session.{Conducts, Ending, Exchange, IsCutShort, IsWaiting, Served, WritesPart, answered, closing, declined, exchange, is_blank, message_of, output, spelled}
+use Rattle.zot_session.specs.Session.{Conducts, Ending, Exchange, Served, answered, closing, declined, exchange, message_of, output, spelled}
 use Rattle.zot_session.specs.Spelling.{spelling}
 use Rattle.zot_session.specs.Turn.{AnswersFront, GoesOn, RefusalEnds, ReplyEnds, Stops, TakeEnds, early, piece, refusing, reply, replying, taking}
 use Rattle.zot_session.specs.Waiting.{TakesPiece, Waiting, budget}

@@ -23,6 +23,7 @@ pub use crate::fakes::{MemorySink, MemorySource};
 pub use crate::front::{Front, HEAD_LIMIT, Message, read_front};
 pub use crate::head::{BODY_LIMIT, Head, read_head};
 pub use crate::reader_source::ReaderSource;
+pub use crate::sending::write_all;
 pub use crate::serving::session;
 pub use crate::sink::Sink;
 pub use crate::source::Source;

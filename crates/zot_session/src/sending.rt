@@ -37,8 +37,8 @@ pub fn send<K: Sink>(alloc: Global, sink: &mut K, name: &[u8], reply: &Reply, cl
     }
 }
 
-// Writes all bytes, unless the sink fails.
-fn write_all<K: Sink>(sink: &mut K, bytes: &[u8]) -> Result<(), Failed>
+/// Writes all bytes, unless the sink fails. After an `Err` a part of them was written.
+pub fn write_all<K: Sink>(sink: &mut K, bytes: &[u8]) -> Result<(), Failed>
     ensures cause { HasCause (K.faults sink.old) (K.faults sink.new) result }
     ensures ok { OnOk result (Appends (K.held sink.old) bytes.now (K.held sink.new)) }
     ensures err { OnErr result (WritesPart (K.held sink.old) bytes.now (K.held sink.new)) }

@@ -1,4 +1,4 @@
-use Rattle.std.proofs.Common.{◌≡◌, sym, ◌∙◌, subst}
+use Rattle.std.proofs.Common.{sym, ◌∙◌, subst}
 use Rattle.zot_model.specs.Name.{IsName}
 use Rattle.zot_session.proofs.HeadLemmas.{is_name_from_test}
 use Rattle.zot_session.proofs.front.asks.Goals as goal

@@ -1,4 +1,4 @@
-use Rattle.std.proofs.Common.{◌≡◌, ℕ, length, min, Some, None, ap, ◌∙◌, refl}
+use Rattle.std.proofs.Common.{ℕ, length, min, Some, None, ap, ◌∙◌, refl}
 use Rattle.zot_session.proofs.FrontLemmas.{head_found_within, head_limit_is}
 use Rattle.zot_session.specs.Front.{head_limit}
 use Rattle.zot_session.proofs.front.head_size.Goals as goal

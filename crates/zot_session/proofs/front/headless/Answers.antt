@@ -1,6 +1,5 @@
 use Rattle.zot_session.proofs.front.headless.Goals as goal
 use Rattle.std.proofs.Common.{rules}
-use Rattle.std.proofs.lemmas.Grind.{common_steps}
 use Rattle.zot_session.specs.Front.{head_limit}
 
 pub returns-then-bytes-lt-HEAD_LIMIT : goal.returns-then-bytes-lt-HEAD_LIMIT

@@ -1,6 +1,6 @@
-use Rattle.std.proofs.Common.{◌≡◌, ℕ, Option, ap, ◌∙◌}
+use Rattle.std.proofs.Common.{ℕ, Option, ap, ◌∙◌}
 use Rattle.zot_session.proofs.FrontLemmas.{front_of-framed, if_ok_same, ok_spellable, same_spellable}
-use Rattle.zot_session.specs.Front.{framed, front_of, head_limit}
+use Rattle.zot_session.specs.Front.{framed, head_limit}
 use Rattle.zot_session.proofs.front.read_front.Goals as goal
 
 pub returns-in-Some-clause-front : goal.returns-in-Some-clause-front

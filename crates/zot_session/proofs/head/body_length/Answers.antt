@@ -1,4 +1,4 @@
-use Rattle.std.proofs.Common.{◌≡◌, ℕ, sym, ◌∙◌}
+use Rattle.std.proofs.Common.{sym, ◌∙◌}
 use Rattle.zot_session.proofs.HeadLemmas.{length_found, length_over}
 use Rattle.zot_session.proofs.head.body_length.Goals as goal
 

@@ -1,4 +1,4 @@
-use Rattle.std.proofs.Common.{◌≡◌, ℕ, ◌+◌, ◌*◌, ◌<◌, ◌≤◌, length, arith, lit≤, ap, sym, ◌∙◌}
+use Rattle.std.proofs.Common.{arith}
 use Rattle.zot_session.proofs.HeadLemmas.{decimal_more, decimal_none, fits_more, length_digits, ten_more}
 use Rattle.zot_session.proofs.head.number.Goals as goal
 

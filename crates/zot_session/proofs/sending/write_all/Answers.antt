@@ -1,4 +1,4 @@
-use Rattle.std.proofs.Common.{◌≡◌, ℕ, List, ◌++◌, take, ◌∙◌, sym}
+use Rattle.std.proofs.Common.{◌++◌, take, ◌∙◌}
 use Rattle.zot_session.proofs.OutsideLemmas.{Appends-append, written_more}
 use Rattle.zot_session.proofs.sending.write_all.Goals as goal
 

@@ -1,5 +1,5 @@
-use Rattle.std.proofs.Common.{◌≡◌, refl, sym, ap, ◌∙◌, subst}
-use Rattle.zot_session.proofs.SessionLemmas.{SoFar, smaller, so_far_ends, so_far_more, so_far_start}
+use Rattle.std.proofs.Common.{refl, ◌∙◌}
+use Rattle.zot_session.proofs.SessionLemmas.{smaller, so_far_ends, so_far_more, so_far_start}
 use Rattle.zot_session.specs.Turn.{early}
 use Rattle.zot_session.proofs.serving.session.Goals as goal
 

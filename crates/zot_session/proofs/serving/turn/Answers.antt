@@ -1,4 +1,4 @@
-use Rattle.std.proofs.Common.{◌≡◌, refl, sym, ap, ◌∙◌}
+use Rattle.std.proofs.Common.{refl}
 use Rattle.zot_session.proofs.FrontLemmas.{front_of_size}
 use Rattle.zot_session.proofs.TurnLemmas.{answers_front, front_read}
 use Rattle.zot_session.specs.Turn.{refusing, replying, reply}

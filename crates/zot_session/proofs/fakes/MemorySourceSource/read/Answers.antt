@@ -1,4 +1,4 @@
-use Rattle.std.proofs.Common.{ℕ, List, ◌+◌, ap, ◌∙◌, slice_range, ◌≡◌, ◌-◌, ◌<◌, ◌≤◌, length, drop, min, arith}
+use Rattle.std.proofs.Common.{ℕ, List, ◌+◌, ap, ◌∙◌, slice_range, length, drop, arith}
 use Rattle.zot_session.proofs.FakeLemmas.{fake_read}
 use Rattle.zot_session.proofs.fakes.MemorySourceSource.read.Goals as goal
 

@@ -1,5 +1,4 @@
-use Rattle.std.proofs.Common.{◌≡◌, ℕ, List, ◌++◌, ◌+◌, ◌<◌, ◌≤◌, length, take, drop, arith, ap, ◌∙◌, sym}
-use Rattle.zot_session.specs.Waiting.{budget}
+use Rattle.std.proofs.Common.{◌≡◌, ℕ, List, ◌++◌, length, take, drop, arith, ap, ◌∙◌, sym}
 use Rattle.zot_session.proofs.InboxLemmas.{lent_whole, took_piece}
 use Rattle.zot_session.proofs.inbox.Inbox.fill.Goals as goal
 

@@ -1,0 +1,38 @@
+-- Texts written one behind another.
+use Rattle.std.proofs.Common.{◌≡◌, ℕ, List, ◌++◌, Option, sym, ap, ◌∙◌}
+use Rattle.std.specs.Prelude.{OnErr, OnOk, Result, Ok, Err}
+use Rattle.std.proofs.lemmas.List.{append_assoc}
+use Rattle.zot_session.proofs.OutsideLemmas.{Appends-append}
+use Rattle.zot_session.specs.Outside.{Appends}
+use Rattle.zot_session.specs.Session.{WritesPart}
+
+-- a part of the first text is a part of both
+pub part_of_both : (before after : Option (List ℕ)) (first second text : List ℕ) → text ≡ first ++ second → WritesPart before first after → WritesPart before text after
+part_of_both before after first second text is h = record {
+  part = h.part;
+  lost = h.lost ++ second;
+  whole = is ∙ ap (λ t. t ++ second) h.whole ∙ append_assoc h.part h.lost second;
+  written = h.written;
+}
+
+-- a part of the second text behind the first is a part of both
+pub part_behind : (before mid after : Option (List ℕ)) (first second text : List ℕ) → text ≡ first ++ second → Appends before first mid → WritesPart mid second after
+    → WritesPart before text after
+part_behind before mid after first second text is h k = record {
+  part = first ++ k.part;
+  lost = k.lost;
+  whole = is ∙ ap (λ t. first ++ t) k.whole ∙ sym (append_assoc first k.part k.lost);
+  written = Appends-append before mid after first k.part h k.written;
+}
+
+pub on_err : {T E : Type 0} (r : Result T E) (P Q : Type 0) → (P → Q) → OnErr r P → OnErr r Q
+on_err (Ok x) P Q f h = tt
+on_err (Err e) P Q f h = f h
+
+pub on_ok : {T E : Type 0} (r : Result T E) (P Q : Type 0) → (P → Q) → OnOk r P → OnOk r Q
+on_ok (Ok x) P Q f h = f h
+on_ok (Err e) P Q f h = tt
+
+pub whole_err : {T E : Type 0} (r : Result T E) (P : Type 0) → P → OnErr r P
+whole_err (Ok x) P h = tt
+whole_err (Err e) P h = h

@@ -1,0 +1,61 @@
+-- The program's words, what a command did, its status and its line on notes.
+use Rattle.std.specs.Prelude.{◌≡◌, ℕ, List, [], ◌∷◌, ◌++◌, Option, Some, None, ◌⊎◌, codes}
+use Rattle.std.specs.Fmt.{decimal}
+use Rattle.zot_model.specs.History.{Run}
+use Rattle.zot_model.specs.State.{RowState, empty_row}
+use Rattle.zot_session.specs.declared.end.End.{End}
+use Rattle.zot_session.specs.declared.end.End.TheVariants as ends
+use Rattle.zot_session.specs.Outside.{Appends, Rose}
+use Rattle.zot_session.specs.Session.{Served, WritesPart}
+use Rattle.zotd.specs.Entries.{entries_of}
+
+-- the words of `pipe`
+unfoldable pub pipe_words : List (List ℕ)
+pipe_words = codes "pipe" ∷ []
+
+-- the status of words that fit no command
+abbrev pub words_status : ℕ
+words_status = 2
+
+-- the status of an end of the connection of `pipe`
+abbrev pub status_of : End → ℕ
+status_of ends.Closed = 0
+status_of (ends.Refused status) = 3
+status_of (ends.Torn n) = 4
+status_of ends.ReadFault = 5
+status_of ends.WriteFault = 6
+status_of ends.Budget = 7
+status_of ends.NoMemory = 8
+
+-- the end of a line: a space and a number, where there is one, and LF
+unfoldable pub line_end : Option ℕ → List ℕ
+line_end None = 10 ∷ []
+line_end (Some n) = 32 ∷ decimal n ++ 10 ∷ []
+
+-- a line of these words and of a number, where there is one
+unfoldable pub line : List ℕ → Option ℕ → List ℕ
+line words number = words ++ line_end number
+
+-- the line for words that fit no command
+unfoldable pub words_line : List ℕ
+words_line = line (codes "zotd: words") None
+
+-- the line for an end of the connection of `pipe`, if it has one
+unfoldable pub line_of : End → List ℕ
+line_of ends.Closed = []
+line_of (ends.Refused status) = line (codes "zotd: refused") (Some status)
+line_of (ends.Torn n) = line (codes "zotd: torn") (Some n)
+line_of ends.ReadFault = line (codes "zotd: read fault") None
+line_of ends.WriteFault = line (codes "zotd: write fault") None
+line_of ends.Budget = line (codes "zotd: budget") None
+line_of ends.NoMemory = line (codes "zotd: no memory") None
+
+-- a text was written, or a part of it where the sink failed, and the sink's count of faults rose there alone
+abbrev pub Notes : List ℕ → Option (List ℕ) → Option (List ℕ) → ℕ → ℕ → Type 0
+Notes text before after faults_before faults_after =
+    (Appends before text after × (faults_after ≡ faults_before)) ⊎ (WritesPart before text after × Rose faults_before faults_after)
+
+-- a connection was served over a table that was empty before, and ended so
+pub record Pipes (end : End) (left_before left_after held_before held_after : Option (List ℕ)) : Type 0 where
+  pub table : RowState
+  pub served : Served (λ exchanges. Run empty_row (entries_of 0 exchanges) table) end left_before left_after held_before held_after

@@ -1,0 +1,100 @@
+//! What the program does for its words.
+ghost use Rattle.std.specs.Prelude.{◌≡◌, ◌≢◌, ◌↔◌, true, false, map, string_bytes};
+ghost use Rattle.zot_session.specs.Outside.{Rose};
+ghost use Rattle.zot_session.specs.declared.end.End.{End as AnEnd};
+ghost use Rattle.zot_session.specs.declared.end.End.TheVariants as ends;
+ghost use Rattle.zotd.specs.Program.{Notes, Pipes, line_of, pipe_words, status_of, words_line, words_status};
+
+use crate::notes::{note, note_end};
+use crate::status::Status;
+use crate::table::serve_table;
+use std::alloc::Global;
+use zot_repo::RepoShard;
+use zot_session::{End, Sink, Source};
+
+/// Runs the command of these words: `pipe` serves one connection from the input to the output over an empty table in memory. Other words are refused with the status 2, and nothing is read or written to the output for them.
+#[tactic(auto, unfolding(crate::specs::Program::words_line))]
+pub fn run_waiting<C: Source, K: Sink, N: Sink>(
+    alloc: Global,
+    words: &[String],
+    input: &mut C,
+    output: &mut K,
+    notes: &mut N,
+) -> Status
+    ensures pipe { map string_bytes words.now ≡ pipe_words → (end : AnEnd)
+        × Pipes end (C.left input.old) (C.left input.new) (K.held output.old) (K.held output.new)
+        × (result.code ≡ status_of end)
+        × Notes (line_of end) (N.held notes.old) (N.held notes.new) (N.faults notes.old) (N.faults notes.new) }
+    ensures words { map string_bytes words.now ≢ pipe_words → (result.code ≡ words_status)
+        × (input.new ≡ input.old) × (output.new ≡ output.old)
+        × Notes words_line (N.held notes.old) (N.held notes.new) (N.faults notes.old) (N.faults notes.new) }
+    ensures read_fault { result.code ≡ 5 → Rose (C.faults input.old) (C.faults input.new) }
+    ensures read_kept { result.code ≢ 5 → C.faults input.new ≡ C.faults input.old }
+    ensures write_fault { result.code ≡ 6 → Rose (K.faults output.old) (K.faults output.new) }
+    ensures write_kept { result.code ≢ 6 → K.faults output.new ≡ K.faults output.old }
+{
+    if !is_pipe(words) {
+        note(notes, b"zotd: words", None);
+        return Status { code: 2 };
+    }
+    let end = pipe(alloc, input, output);
+    note_end(notes, end);
+    Status {
+        code: status_of(end),
+    }
+}
+
+/// The status where the program's words couldn't be read, for want of memory or because they are no text. No command has such words.
+#[tactic(auto, unfolding(crate::specs::Program::words_line, crate::specs::Program::line_of))]
+pub fn run_unread<N: Sink>(no_memory: bool, notes: &mut N) -> Status
+    ensures no_memory { no_memory ≡ true → (result.code ≡ status_of ends.NoMemory)
+        × Notes (line_of ends.NoMemory) (N.held notes.old) (N.held notes.new) (N.faults notes.old) (N.faults notes.new) }
+    ensures words { no_memory ≡ false → (result.code ≡ words_status)
+        × Notes words_line (N.held notes.old) (N.held notes.new) (N.faults notes.old) (N.faults notes.new) }
+{
+    if no_memory {
+        note_end(notes, End::NoMemory);
+        Status { code: 8 }
+    } else {
+        note(notes, b"zotd: words", None);
+        Status { code: 2 }
+    }
+}
+
+// Whether these are the words of `pipe`.
+#[tactic(auto, unfolding(crate::specs::Program::pipe_words))]
+fn is_pipe(words: &[String]) -> bool
+    ensures { result ≡ true ↔ map string_bytes words.now ≡ pipe_words }
+{
+    match words {
+        [word] => word.as_str() == "pipe",
+        _ => false,
+    }
+}
+
+// The status of an end.
+fn status_of(end: End) -> u8
+    ensures { result ≡ status_of end }
+{
+    match end {
+        End::Closed => 0,
+        End::Refused(_) => 3,
+        End::Torn(_) => 4,
+        End::ReadFault => 5,
+        End::WriteFault => 6,
+        End::Budget => 7,
+        End::NoMemory => 8,
+    }
+}
+
+// Serves a connection over an empty table.
+fn pipe<C: Source, K: Sink>(alloc: Global, input: &mut C, output: &mut K) -> End
+    ensures served { Pipes result (C.left input.old) (C.left input.new) (K.held output.old) (K.held output.new) }
+    ensures read_fault { result ≡ ends.ReadFault → Rose (C.faults input.old) (C.faults input.new) }
+    ensures read_kept { result ≢ ends.ReadFault → C.faults input.new ≡ C.faults input.old }
+    ensures write_fault { result ≡ ends.WriteFault → Rose (K.faults output.old) (K.faults output.new) }
+    ensures write_kept { result ≢ ends.WriteFault → K.faults output.new ≡ K.faults output.old }
+{
+    let mut table = RepoShard::new(alloc);
+    serve_table(alloc, &mut table, input, output)
+}
