@@ -14,6 +14,8 @@ mod serving;
 mod sink;
 mod source;
 mod spelling;
+#[cfg(test)]
+mod tests;
 mod writer_sink;
 
 pub use crate::answers::Answers;

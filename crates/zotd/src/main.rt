@@ -5,6 +5,8 @@ mod notes;
 mod running;
 mod status;
 mod table;
+#[cfg(test)]
+mod tests;
 
 use crate::running::{run_unread, run_waiting};
 use std::io::ErrorKind;

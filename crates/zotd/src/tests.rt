@@ -1,0 +1,251 @@
+//! Connections through `run_waiting`: what is written, the status and the line on notes.
+use crate::running::{run_unread, run_waiting};
+use crate::status::Status;
+use crate::table::serve_table;
+use std::alloc::Global;
+use std::test::Fail;
+use zot_repo::RepoShard;
+use zot_session::{End, MemorySink, MemorySource};
+
+/// A POST of two bytes, and a GET of them.
+const FIRST: &[u8] =
+    b"POST /v2/a/blobs/uploads/?digest=sha256:44136fa355b3678a1146ad16f7e8649e94fb4fc21fe77e8310c060f61caaff8a HTTP/1.1\r\nHost: r\r\nContent-Length: 2\r\n\r\n{}GET /v2/a/blobs/sha256:44136fa355b3678a1146ad16f7e8649e94fb4fc21fe77e8310c060f61caaff8a HTTP/1.1\r\nHost: r\r\n\r\n";
+
+/// The replies to them.
+const FIRST_REPLIES: &[u8] =
+    b"HTTP/1.1 201 Created\r\nLocation: /v2/a/blobs/sha256:44136fa355b3678a1146ad16f7e8649e94fb4fc21fe77e8310c060f61caaff8a\r\nDocker-Content-Digest: sha256:44136fa355b3678a1146ad16f7e8649e94fb4fc21fe77e8310c060f61caaff8a\r\nContent-Length: 0\r\n\r\nHTTP/1.1 200 OK\r\nDocker-Content-Digest: sha256:44136fa355b3678a1146ad16f7e8649e94fb4fc21fe77e8310c060f61caaff8a\r\nContent-Type: application/octet-stream\r\nContent-Length: 2\r\n\r\n{}";
+
+/// What a head of no known form is answered.
+const NOT_BUILT: &[u8] =
+    b"HTTP/1.1 501 Not Implemented\r\nContent-Type: application/json\r\nContent-Length: 55\r\nConnection: close\r\n\r\n{\"errors\":[{\"code\":\"NOT_BUILT\",\"message\":\"not built\"}]}";
+
+/// What stands where a run ended.
+#[derive(Drop)]
+struct Ran {
+    code: u8,
+    output: Vec<u8>,
+    notes: Vec<u8>,
+}
+
+/// The call of this number fails, or none where it is 0.
+fn failing(alloc: Global, call: u64) -> Result<Vec<u64>, Fail> {
+    let mut calls = Vec::new(alloc);
+    if call > 0 {
+        calls.push(call)?;
+    }
+    Ok(calls)
+}
+
+/// Runs the program's words over an input in pieces, where one read and one write fail.
+fn run(
+    alloc: Global,
+    words: &[&str],
+    input: &[u8],
+    piece: usize,
+    read: u64,
+    write: u64,
+) -> Result<Ran, Fail> {
+    let mut texts = Vec::new(alloc);
+    for word in words {
+        texts.push(String::from_str(alloc, word)?)?;
+    }
+    let piece = piece.max(1);
+    let mut source = MemorySource::new(
+        Vec::from_slice(alloc, input)?,
+        piece,
+        failing(alloc, read)?,
+    );
+    let mut sink = MemorySink::new(alloc, piece, failing(alloc, write)?);
+    let mut notes = MemorySink::new(alloc, 3, Vec::new(alloc));
+    let status = run_waiting(alloc, texts.as_slice(), &mut source, &mut sink, &mut notes);
+    Ok(Ran {
+        code: status.code,
+        output: Vec::from_slice(alloc, sink.written())?,
+        notes: Vec::from_slice(alloc, notes.written())?,
+    })
+}
+
+#[test]
+fn first_path_in_pieces(rt: HostRuntime) -> Result<(), Fail> {
+    for piece in [1, 2, 7, 4_096] {
+        let ran = run(rt.alloc(), &["pipe"], FIRST, piece, 0, 0)?;
+        assert_eq!(rt; ran.code, 0);
+        assert!(rt; ran.output.as_slice() == FIRST_REPLIES);
+        assert!(rt; ran.notes.is_empty());
+    }
+    Ok(())
+}
+
+#[test]
+fn ends_of_inputs(rt: HostRuntime) -> Result<(), Fail> {
+    for (input, output, code, notes) in [
+        (b"".as_slice(), b"".as_slice(), 0, b"".as_slice()),
+        (b"\r\n".as_slice(), b"".as_slice(), 0, b"".as_slice()),
+        (b"\n\n\n".as_slice(), b"".as_slice(), 0, b"".as_slice()),
+        (
+            b"\r\n\r\n".as_slice(),
+            NOT_BUILT,
+            3,
+            b"zotd: refused 501\n".as_slice(),
+        ),
+        (
+            b"PUT /v2/a/blobs/x HTTP/1.1\r\nHost: r\r\n\r\n".as_slice(),
+            NOT_BUILT,
+            3,
+            b"zotd: refused 501\n".as_slice(),
+        ),
+        (
+            b"\r".as_slice(),
+            b"".as_slice(),
+            4,
+            b"zotd: torn 1\n".as_slice(),
+        ),
+        (
+            b"GET / HTTP/1.1".as_slice(),
+            b"".as_slice(),
+            4,
+            b"zotd: torn 14\n".as_slice(),
+        ),
+    ] {
+        let ran = run(rt.alloc(), &["pipe"], input, 3, 0, 0)?;
+        assert_eq!(rt; ran.code, code);
+        assert!(rt; ran.output.as_slice() == output);
+        assert!(rt; ran.notes.as_slice() == notes);
+    }
+    Ok(())
+}
+
+#[test]
+fn refusals_go_on(rt: HostRuntime) -> Result<(), Fail> {
+    let ran = run(
+        rt.alloc(),
+        &["pipe"],
+        b"POST /v2/a/blobs/uploads/?digest=sha256:44136fa355b3678a1146ad16f7e8649e94fb4fc21fe77e8310c060f61caaff8b HTTP/1.1\r\nHost: r\r\nContent-Length: 2\r\n\r\n{}GET /v2/a/blobs/sha256:44136fa355b3678a1146ad16f7e8649e94fb4fc21fe77e8310c060f61caaff8b HTTP/1.1\r\nHost: r\r\n\r\n",
+        16,
+        0,
+        0,
+    )?;
+    assert_eq!(rt; ran.code, 0);
+    assert!(rt;
+        ran.output.as_slice()
+            == b"HTTP/1.1 400 Bad Request\r\nContent-Type: application/json\r\nContent-Length: 65\r\n\r\n{\"errors\":[{\"code\":\"DIGEST_INVALID\",\"message\":\"digest invalid\"}]}HTTP/1.1 404 Not Found\r\nContent-Type: application/json\r\nContent-Length: 61\r\n\r\n{\"errors\":[{\"code\":\"BLOB_UNKNOWN\",\"message\":\"blob unknown\"}]}".as_slice()
+    );
+    Ok(())
+}
+
+#[test]
+fn faults_at_each_call(rt: HostRuntime) -> Result<(), Fail> {
+    let mut reads = 0;
+    let mut writes = 0;
+    for call in 1..64 {
+        let ran = run(rt.alloc(), &["pipe"], FIRST, 7, call, 0)?;
+        if ran.code == 5 {
+            reads = call;
+            assert!(rt; ran.notes.as_slice() == b"zotd: read fault\n".as_slice());
+        } else {
+            assert_eq!(rt; ran.code, 0);
+        }
+        assert!(rt; FIRST_REPLIES.starts_with(ran.output.as_slice()));
+        let ran = run(rt.alloc(), &["pipe"], FIRST, 7, 0, call)?;
+        if ran.code == 6 {
+            writes = call;
+            assert!(rt; ran.notes.as_slice() == b"zotd: write fault\n".as_slice());
+        } else {
+            assert_eq!(rt; ran.code, 0);
+        }
+        assert!(rt; FIRST_REPLIES.starts_with(ran.output.as_slice()));
+    }
+    // As many calls as the input and the output have pieces of 7 bytes, and one that finds the input's end.
+    assert_eq!(rt; reads, (FIRST.len() / 7 + 2) as u64);
+    assert!(rt; writes >= (FIRST_REPLIES.len() / 7) as u64);
+    Ok(())
+}
+
+#[test]
+fn torn_at_each_place(rt: HostRuntime) -> Result<(), Fail> {
+    let post = 147;
+    for n in 0..FIRST.len() {
+        let ran = run(rt.alloc(), &["pipe"], &FIRST[..n], 4_096, 0, 0)?;
+        let torn = if n < post { n } else { n - post };
+        if torn == 0 {
+            assert_eq!(rt; ran.code, 0);
+            assert!(rt; ran.notes.is_empty());
+        } else {
+            let note = format!(in rt.alloc(); "zotd: torn {torn}\n")?;
+            assert_eq!(rt; ran.code, 4);
+            assert!(rt; ran.notes.as_slice() == note.as_bytes());
+        }
+        assert_eq!(rt; ran.output.is_empty(), n < post);
+    }
+    Ok(())
+}
+
+/// Whether these words are refused, and nothing is written to the output for them.
+fn is_refused(alloc: Global, words: &[&str]) -> Result<bool, Fail> {
+    let ran = run(alloc, words, FIRST, 64, 0, 0)?;
+    let noted = ran.notes.as_slice() == b"zotd: words\n".as_slice();
+    Ok(ran.code == 2 && ran.output.is_empty() && noted)
+}
+
+#[test]
+fn words_that_fit_nothing(rt: HostRuntime) -> Result<(), Fail> {
+    assert!(rt; is_refused(rt.alloc(), &[])?);
+    assert!(rt; is_refused(rt.alloc(), &["pipe", "x"])?);
+    assert!(rt; is_refused(rt.alloc(), &["serve"])?);
+    assert!(rt; is_refused(rt.alloc(), &[""])?);
+    assert!(rt; is_refused(rt.alloc(), &["pip"])?);
+    assert!(rt; !is_refused(rt.alloc(), &["pipe"])?);
+    Ok(())
+}
+
+#[test]
+fn words_that_cannot_be_read(rt: HostRuntime) -> Result<(), Fail> {
+    for (no_memory, code, line) in [
+        (true, 8, b"zotd: no memory\n".as_slice()),
+        (false, 2, b"zotd: words\n".as_slice()),
+    ] {
+        let mut notes = MemorySink::new(rt.alloc(), 5, Vec::new(rt.alloc()));
+        assert!(rt; run_unread(no_memory, &mut notes) == Status { code });
+        assert!(rt; notes.written() == line);
+    }
+    Ok(())
+}
+
+#[test]
+fn one_table_over_connections(rt: HostRuntime) -> Result<(), Fail> {
+    let alloc = rt.alloc();
+    let mut table = RepoShard::new(alloc);
+    for (input, first_line) in [
+        (
+            b"GET /v2/b/blobs/sha256:44136fa355b3678a1146ad16f7e8649e94fb4fc21fe77e8310c060f61caaff8a HTTP/1.1\r\nHost: r\r\n\r\n".as_slice(),
+            b"HTTP/1.1 404 ".as_slice(),
+        ),
+        (FIRST, b"HTTP/1.1 201 ".as_slice()),
+        (
+            b"POST /v2/a/blobs/uploads/?digest=sha256:44136fa355b3678a1146ad16f7e8649e94fb4fc21fe77e8310c060f61caaff8a HTTP/1.1\r\nHost: r\r\nContent-Length: 2\r\n\r\n[]".as_slice(),
+            b"HTTP/1.1 400 ".as_slice(),
+        ),
+        (
+            b"GET /v2/a/blobs/sha256:44136fa355b3678a1146ad16f7e8649e94fb4fc21fe77e8310c060f61caaff8a HTTP/1.1\r\nHost: r\r\n\r\n".as_slice(),
+            b"HTTP/1.1 200 ".as_slice(),
+        ),
+        (
+            b"GET /v2/b/blobs/sha256:44136fa355b3678a1146ad16f7e8649e94fb4fc21fe77e8310c060f61caaff8a HTTP/1.1\r\nHost: r\r\n\r\n".as_slice(),
+            b"HTTP/1.1 404 ".as_slice(),
+        ),
+        (
+            b"POST /v2/b/blobs/uploads/?digest=sha256:44136fa355b3678a1146ad16f7e8649e94fb4fc21fe77e8310c060f61caaff8a HTTP/1.1\r\nHost: r\r\nContent-Length: 2\r\n\r\n{}".as_slice(),
+            b"HTTP/1.1 201 ".as_slice(),
+        ),
+        (
+            b"GET /v2/b/blobs/sha256:44136fa355b3678a1146ad16f7e8649e94fb4fc21fe77e8310c060f61caaff8a HTTP/1.1\r\nHost: r\r\n\r\n".as_slice(),
+            b"HTTP/1.1 200 ".as_slice(),
+        ),
+    ] {
+        let mut source = MemorySource::new(Vec::from_slice(alloc, input)?, 32, Vec::new(alloc));
+        let mut sink = MemorySink::new(alloc, 32, Vec::new(alloc));
+        assert!(rt; serve_table(alloc, &mut table, &mut source, &mut sink) == End::Closed);
+        assert!(rt; sink.written().starts_with(first_line));
+    }
+    Ok(())
+}
