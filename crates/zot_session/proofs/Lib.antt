@@ -5,3 +5,4 @@ mod InboxLemmas
 pub mod OutsideLemmas
 mod TurnLemmas
 pub mod SessionLemmas
+pub mod EndLemmas

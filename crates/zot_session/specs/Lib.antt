@@ -1,3 +1,4 @@
+pub mod Ends
 pub mod Fakes
 pub mod Front
 pub mod Head

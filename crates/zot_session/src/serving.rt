@@ -1,5 +1,6 @@
 //! A session: the requests of one connection, answered in order.
 ghost use Rattle.std.specs.Prelude.{◌≡◌, ◌≢◌, IfNone, IfSome, [], Some};
+ghost use Rattle.zot_session.specs.Ends.{EndsAs, HasFailed};
 ghost use Rattle.zot_session.specs.Outside.{Rose, Takes};
 ghost use Rattle.zot_session.specs.Sending.{SendFaults};
 ghost use Rattle.zot_session.specs.Session.{Conducts, Served, is_blank};
@@ -133,6 +134,7 @@ pub fn session<A: Answers, C: Source, K: Sink>(
     sink: &mut K,
 ) -> End
     ensures served { Served (λ exchanges. Conducts A.answers answers.old exchanges answers.new) result (C.left source.old) (C.left source.new) (K.held sink.old) (K.held sink.new) }
+    ensures of_bytes { ¬ HasFailed result → IfSome (C.left source.old) (λ bytes. EndsAs bytes result) }
     ensures read_fault { result ≡ ends.ReadFault → Rose (C.faults source.old) (C.faults source.new) }
     ensures read_kept { result ≢ ends.ReadFault → C.faults source.new ≡ C.faults source.old }
     ensures write_fault { result ≡ ends.WriteFault → Rose (K.faults sink.old) (K.faults sink.new) }

@@ -1,10 +1,11 @@
 -- The program's words, what a command did, its status and its line on notes.
-use Rattle.std.specs.Prelude.{◌≡◌, ℕ, List, [], ◌∷◌, ◌++◌, Option, Some, None, ◌⊎◌, codes}
+use Rattle.std.specs.Prelude.{◌≡◌, ℕ, List, [], ◌∷◌, ◌++◌, Option, Some, None, IfSome, ◌⊎◌, codes}
 use Rattle.std.specs.Fmt.{decimal}
 use Rattle.zot_model.specs.History.{Run}
 use Rattle.zot_model.specs.State.{RowState, empty_row}
 use Rattle.zot_session.specs.declared.end.End.{End}
 use Rattle.zot_session.specs.declared.end.End.TheVariants as ends
+use Rattle.zot_session.specs.Ends.{EndsAs, HasFailed}
 use Rattle.zot_session.specs.Outside.{Appends, Rose}
 use Rattle.zot_session.specs.Session.{Served, WritesPart}
 use Rattle.zotd.specs.Entries.{entries_of}
@@ -55,7 +56,8 @@ abbrev pub Notes : List ℕ → Option (List ℕ) → Option (List ℕ) → ℕ 
 Notes text before after faults_before faults_after =
     (Appends before text after × (faults_after ≡ faults_before)) ⊎ (WritesPart before text after × Rose faults_before faults_after)
 
--- a connection was served over a table that was empty before, and ended so
+-- a connection was served over a table that was empty before, and ended so: where nothing failed, as its bytes say
 pub record Pipes (end : End) (left_before left_after held_before held_after : Option (List ℕ)) : Type 0 where
   pub table : RowState
   pub served : Served (λ exchanges. Run empty_row (entries_of 0 exchanges) table) end left_before left_after held_before held_after
+  pub of_bytes : ¬ HasFailed end → IfSome left_before (λ bytes. EndsAs bytes end)

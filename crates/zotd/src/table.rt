@@ -1,6 +1,7 @@
 //! A connection over one table of repositories.
-ghost use Rattle.std.specs.Prelude.{◌≡◌, ◌≢◌};
+ghost use Rattle.std.specs.Prelude.{◌≡◌, ◌≢◌, IfSome};
 ghost use Rattle.zot_model.specs.History.{Run};
+ghost use Rattle.zot_session.specs.Ends.{EndsAs, HasFailed};
 ghost use Rattle.zot_session.specs.Outside.{Rose};
 ghost use Rattle.zot_session.specs.Session.{Served};
 ghost use Rattle.zot_session.specs.declared.end.End.TheVariants as ends;
@@ -34,6 +35,7 @@ impl TableAnswers<'_> {
     fn serve<C: Source, K: Sink>(&mut self, alloc: Global, source: &mut C, sink: &mut K) -> End
         ensures same_reference { self.new.table.ghost_name ≡ self.old.table.ghost_name }
         ensures served { Served (λ exchanges. Run self.old.table.now (entries_of self.old.table.now.faults exchanges) self.new.table.now) result (C.left source.old) (C.left source.new) (K.held sink.old) (K.held sink.new) }
+        ensures of_bytes { ¬ HasFailed result → IfSome (C.left source.old) (λ bytes. EndsAs bytes result) }
         ensures read_fault { result ≡ ends.ReadFault → Rose (C.faults source.old) (C.faults source.new) }
         ensures read_kept { result ≢ ends.ReadFault → C.faults source.new ≡ C.faults source.old }
         ensures write_fault { result ≡ ends.WriteFault → Rose (K.faults sink.old) (K.faults sink.new) }
@@ -51,6 +53,7 @@ pub fn serve_table<C: Source, K: Sink>(
     sink: &mut K,
 ) -> End
     ensures served { Served (λ exchanges. Run table.old (entries_of table.old.faults exchanges) table.new) result (C.left source.old) (C.left source.new) (K.held sink.old) (K.held sink.new) }
+    ensures of_bytes { ¬ HasFailed result → IfSome (C.left source.old) (λ bytes. EndsAs bytes result) }
     ensures read_fault { result ≡ ends.ReadFault → Rose (C.faults source.old) (C.faults source.new) }
     ensures read_kept { result ≢ ends.ReadFault → C.faults source.new ≡ C.faults source.old }
     ensures write_fault { result ≡ ends.WriteFault → Rose (K.faults sink.old) (K.faults sink.new) }

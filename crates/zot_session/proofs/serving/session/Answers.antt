@@ -1,4 +1,5 @@
 use Rattle.std.proofs.Common.{refl, ◌∙◌}
+use Rattle.zot_session.proofs.EndLemmas.{of_bytes}
 use Rattle.zot_session.proofs.SessionLemmas.{smaller, so_far_ends, so_far_more, so_far_start}
 use Rattle.zot_session.specs.Turn.{early}
 use Rattle.zot_session.proofs.serving.session.Goals as goal
@@ -20,3 +21,9 @@ turns-preserved g c = (
   c.in_default-turn.ensures.read ∙ c.turns.invariant.1,
   c.in_default-turn.ensures.written ∙ c.turns.invariant.2,
 )
+
+pub returns-in_default-clause-of_bytes : goal.returns-in_default-clause-of_bytes
+returns-in_default-clause-of_bytes g c = of_bytes _ _ _ _ _ _ (returns-in_default-clause-served g c)
+
+pub returns-in-Some-clause-of_bytes : goal.returns-in-Some-clause-of_bytes
+returns-in-Some-clause-of_bytes g c = of_bytes _ _ _ _ _ _ (returns-in-Some-clause-served g c)

@@ -10,4 +10,5 @@ returns-clause-served g c = record {
   table = c.serve_table.new.table;
   served = subst (λ (row : RowState). Served (λ exchanges. Run row (entries_of row.faults exchanges) c.serve_table.new.table) c.serve_table.result (g.C.Source.left c.args.input.now)
       (g.C.Source.left c.serve_table.new.source) (g.K.Sink.held c.args.output.now) (g.K.Sink.held c.serve_table.new.sink)) c.new-table.ensures c.serve_table.ensures.served;
+  of_bytes = c.serve_table.ensures.of_bytes;
 }
