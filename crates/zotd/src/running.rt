@@ -72,8 +72,8 @@ fn is_pipe(words: &[String]) -> bool
     }
 }
 
-// The status of an end.
-fn status_of(end: End) -> u8
+/// The status of an end of the connection of `pipe`.
+pub fn status_of(end: End) -> u8
     ensures { result ≡ status_of end }
 {
     match end {

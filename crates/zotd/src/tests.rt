@@ -1,5 +1,6 @@
 //! Connections through `run_waiting`: what is written, the status and the line on notes.
-use crate::running::{run_unread, run_waiting};
+use crate::notes::note_end;
+use crate::running::{run_unread, run_waiting, status_of};
 use crate::status::Status;
 use crate::table::serve_table;
 use std::alloc::Global;
@@ -208,6 +209,41 @@ fn words_that_cannot_be_read(rt: HostRuntime) -> Result<(), Fail> {
         assert!(rt; run_unread(no_memory, &mut notes) == Status { code });
         assert!(rt; notes.written() == line);
     }
+    Ok(())
+}
+
+#[test]
+fn statuses_and_lines(rt: HostRuntime) -> Result<(), Fail> {
+    for (end, code, line) in [
+        (End::Closed, 0, b"".as_slice()),
+        (End::Refused(501), 3, b"zotd: refused 501\n".as_slice()),
+        (
+            End::Torn(18_446_744_073_709_551_615),
+            4,
+            b"zotd: torn 18446744073709551615\n".as_slice(),
+        ),
+        (End::ReadFault, 5, b"zotd: read fault\n".as_slice()),
+        (End::WriteFault, 6, b"zotd: write fault\n".as_slice()),
+        (End::Budget, 7, b"zotd: budget\n".as_slice()),
+        (End::NoMemory, 8, b"zotd: no memory\n".as_slice()),
+    ] {
+        let mut notes = MemorySink::new(rt.alloc(), 4, Vec::new(rt.alloc()));
+        note_end(&mut notes, end);
+        assert_eq!(rt; status_of(end), code);
+        assert!(rt; notes.written() == line);
+    }
+    Ok(())
+}
+
+#[test]
+fn failing_notes_keep_the_status(rt: HostRuntime) -> Result<(), Fail> {
+    let alloc = rt.alloc();
+    let mut source = MemorySource::new(Vec::new(alloc), 4, Vec::new(alloc));
+    let mut sink = MemorySink::new(alloc, 4, Vec::new(alloc));
+    let mut notes = MemorySink::new(alloc, 4, failing(alloc, 2)?);
+    let status = run_waiting(alloc, &[], &mut source, &mut sink, &mut notes);
+    assert!(rt; status == Status { code: 2 });
+    assert!(rt; notes.written() == b"zotd".as_slice());
     Ok(())
 }
 
