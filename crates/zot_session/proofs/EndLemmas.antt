@@ -1,19 +1,18 @@
 -- The end of a connection is that of its bytes.
-use Rattle.std.proofs.Common.{◌≡◌, ◌≢◌, ℕ, ◌+◌, ◌-◌, ◌<◌, ◌≤◌, nat_le, Bool, true, false, List, [], ◌∷◌, ◌++◌, length, take, drop, map, Option, Some, None, refl, sym, ap, ◌∙◌, subst, arith, lit≤}
+use Rattle.std.proofs.Common.{◌≡◌, ◌≢◌, ℕ, ◌+◌, ◌-◌, ◌<◌, ◌≤◌, nat_le, Bool, true, false, List, [], ◌∷◌, ◌++◌, length, take, drop, map, Option, Some, None, refl, sym, ap, ◌∙◌, subst, arith}
 use Rattle.std.specs.Prelude.{if◌then◌else◌, IfSome}
 use Rattle.std.proofs.lemmas.Bool.{le-leb, leb-true}
-use Rattle.std.proofs.lemmas.List.{append-nil, length-append, length-take, take_all}
+use Rattle.std.proofs.lemmas.List.{append-nil, length-append, take_all}
 use Rattle.std.proofs.Math.Seq.{take-append-add}
 use Rattle.zot_model.specs.declared.reply.Reply.{Reply}
 use Rattle.zot_session.specs.declared.end.End.{End}
 use Rattle.zot_session.specs.declared.end.End.TheVariants as ends
-use Rattle.zot_session.specs.declared.front.Front.{Front}
-use Rattle.zot_session.specs.declared.front.Front.TheVariants.{Closing, Partial, Whole}
+use Rattle.zot_session.specs.declared.front.Front.TheVariants.{Closing, Partial}
 use Rattle.zot_session.specs.declared.front.Message.{Message}
 use Rattle.zot_session.specs.Ends.{EndsAs, HasFailed, end_by}
 use Rattle.zot_session.specs.Front.{Messages, front_of}
 use Rattle.zot_session.specs.Outside.{IsOver, Takes}
-use Rattle.zot_session.specs.Session.{Ending, Exchange, Served, is_blank, message_of}
+use Rattle.zot_session.specs.Session.{Exchange, Served, is_blank, message_of}
 use Rattle.zot_session.specs.Spelling.{status_in}
 use Rattle.zot_session.specs.Waiting.{budget}
 use Rattle.zot_session.proofs.FrontLemmas.{Messages-more, front_of-more}

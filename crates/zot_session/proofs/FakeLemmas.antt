@@ -18,5 +18,5 @@ fake_read bytes start n room size rest piece within fits moves is =
     record {
       within = omega arith;
       taken = (drop (start + n) bytes, parts ∙ ap (λ p. p ++ drop (start + n) bytes) (sym front), refl);
-      over = λ none room_left. drop_all start bytes (omega arith);
+      over = λ none room_left. drop_all (start + n) bytes (omega arith);
     }

@@ -4,26 +4,24 @@ use Rattle.std.proofs.lemmas.List.{append_assoc, append-nil, length-drop, take-a
 use Rattle.zot_session.specs.Outside.{Appends, Takes}
 
 pub Appends-nil : (held : Option (List ℕ)) → Appends held [] held
-Appends-nil None = refl
+Appends-nil None = tt
 Appends-nil (Some held) = ap Some (sym (append-nil held))
 
 -- two pieces written one behind the other
 pub Appends-append : (before mid after : Option (List ℕ)) (first second : List ℕ) → Appends before first mid → Appends mid second after → Appends before (first ++ second) after
-Appends-append None None after first second h k = k
-Appends-append None (Some mid) after first second h k = cc h
+Appends-append None mid after first second h k = tt
 Appends-append (Some before) None after first second h k = cc h
 Appends-append (Some before) (Some mid) after first second h k =
     let same : mid ≡ before ++ first = cc h in
     k ∙ ap Some (ap (λ held. held ++ second) same ∙ append_assoc before first second)
 
 pub Takes-nil : (left : Option (List ℕ)) → Takes left [] left
-Takes-nil None = refl
+Takes-nil None = tt
 Takes-nil (Some left) = (left, refl, refl)
 
 -- two pieces taken one behind the other
 pub Takes-append : (before mid after : Option (List ℕ)) (first second : List ℕ) → Takes before first mid → Takes mid second after → Takes before (first ++ second) after
-Takes-append None None after first second h k = k
-Takes-append None (Some mid) after first second h k = cc h
+Takes-append None mid after first second h k = tt
 Takes-append (Some before) None after first second h k = cc h.2
 Takes-append (Some before) (Some mid) after first second h k =
     let same : mid ≡ h.0 = cc h.2 in

@@ -1,5 +1,5 @@
 -- A session so far, turn by turn.
-use Rattle.std.proofs.Common.{◌≡◌, ℕ, ◌+◌, ◌-◌, ◌*◌, ◌<◌, ◌≤◌, true, List, [], ◌∷◌, ◌++◌, length, drop, map, Option, Some, None, inl, inr, refl, sym, ap, ◌∙◌, subst, arith}
+use Rattle.std.proofs.Common.{◌≡◌, ℕ, ◌+◌, ◌-◌, ◌*◌, ◌<◌, ◌≤◌, true, List, [], ◌∷◌, ◌++◌, length, drop, map, Option, inl, inr, refl, sym, ap, ◌∙◌, subst, arith}
 use Rattle.std.proofs.lemmas.List.{append_assoc, append-nil, length-append, length-drop}
 use Rattle.zot_model.specs.declared.reply.Reply.{Reply}
 use Rattle.zot_model.specs.declared.request.Request.{Request}
@@ -7,7 +7,7 @@ use Rattle.zot_session.specs.declared.end.End.{End}
 use Rattle.zot_session.specs.declared.end.End.TheVariants as ends
 use Rattle.zot_session.specs.declared.front.Front.TheVariants.{Closing, Partial}
 use Rattle.zot_session.specs.Front.{Messages, front_of}
-use Rattle.zot_session.specs.Outside.{Appends, IsOver, Takes}
+use Rattle.zot_session.specs.Outside.{Appends, Takes}
 use Rattle.zot_session.specs.Session.{Conducts, Ending, Exchange, Served, answered, closing, declined, exchange, message_of, output, spelled}
 use Rattle.zot_session.specs.Spelling.{spelling}
 use Rattle.zot_session.specs.Turn.{AnswersFront, GoesOn, RefusalEnds, ReplyEnds, Stops, TakeEnds, early, piece, refusing, reply, replying, taking}
@@ -172,22 +172,14 @@ module _ {A : Type 0} (answers : A → Request → Reply → A → Type 0) where
     ending = ending;
   }
 
-still_over : (left left' : Option (List ℕ)) → Takes left [] left' → IsOver left → IsOver left'
-still_over None None h o = tt
-still_over None (Some l) h o = cc h
-still_over (Some l) None h o = cc h.2
-still_over (Some l) (Some l') h o =
-    let same : l' ≡ h.0 = cc h.2 in
-    same ∙ sym h.1 ∙ o
-
 -- what holds at the end where no piece could be taken
 take_ending : (end : End) (taken : List ℕ) (exchanges : List Exchange) (was : Waiting) (left left' : Option (List ℕ)) → front_of was.bytes ≡ Partial → length taken ≡ was.taken
-    → Takes left [] left' → TakeEnds end was left → Ending end taken exchanges was.bytes left' (output exchanges)
+    → Takes left [] left' → TakeEnds end was left' → Ending end taken exchanges was.bytes left' (output exchanges)
 take_ending ends.Closed taken exchanges was left left' partial counted none h =
-    (record { partial = partial; room = omega (arith, counted, h.0) }, h.1, still_over left left' none h.2, refl)
+    (record { partial = partial; room = omega (arith, counted, h.0) }, h.1, h.2, refl)
 take_ending (ends.Refused status) taken exchanges was left left' partial counted none h = absurd h
 take_ending (ends.Torn n) taken exchanges was left left' partial counted none h =
-    (record { partial = partial; room = omega (arith, counted, h.0) }, h.1, h.2, still_over left left' none h.3, refl)
+    (record { partial = partial; room = omega (arith, counted, h.0) }, h.1, h.2, h.3, refl)
 take_ending ends.ReadFault taken exchanges was left left' partial counted none h = (record { partial = partial; room = omega (arith, counted, h) }, refl)
 take_ending ends.WriteFault taken exchanges was left left' partial counted none h = absurd h
 take_ending ends.Budget taken exchanges was left left' partial counted none h = (partial, counted ∙ h, refl)

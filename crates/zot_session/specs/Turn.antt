@@ -83,7 +83,7 @@ pub data GoesOn {A : Type 0} (answers : A → Request → Reply → A → Type 0
 -- what a turn does that ends the connection
 pub data Stops {A : Type 0} (answers : A → Request → Reply → A → Type 0) (end : End) (old new : A) (left left' held held' : Option (List ℕ)) (was : Waiting) : Type 0 where
   early : end ≡ ends.NoMemory → new ≡ old → left' ≡ left → held' ≡ held → Stops answers end old new left left' held held' was
-  taking : front_of was.bytes ≡ Partial → TakeEnds end was left → new ≡ old → Takes left [] left' → held' ≡ held → Stops answers end old new left left' held held' was
+  taking : front_of was.bytes ≡ Partial → TakeEnds end was left' → new ≡ old → Takes left [] left' → held' ≡ held → Stops answers end old new left left' held held' was
   refusing : (reply : Reply) → front_of was.bytes ≡ Closing reply → RefusalEnds end reply held held' → new ≡ old → left' ≡ left → Stops answers end old new left left' held held' was
   replying : (a : AnswersFront answers old new was) → ReplyEnds end held (spelled a.exchange) held' → left' ≡ left → Stops answers end old new left left' held held' was
 

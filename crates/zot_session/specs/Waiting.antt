@@ -31,8 +31,8 @@ pub record TakesPiece (old new : Waiting) (before after : Option (List ℕ)) : T
 -- what an inbox says of a try to take a piece
 abbrev pub Fills : Filled → Waiting → Waiting → Option (List ℕ) → Option (List ℕ) → Type 0
 Fills Piece old new before after = TakesPiece old new before after
-Fills Over old new before after = (new ≡ old) × Takes before [] after × IsOver before
-Fills Fault old new before after = (new ≡ old) × (after ≡ before)
+Fills Over old new before after = (new ≡ old) × Takes before [] after × IsOver after
+Fills Fault old new before after = (new ≡ old) × Takes before [] after
 Fills NoMemory old new before after = (new ≡ old) × (after ≡ before)
 
 -- the source's count of faults rose where the try failed, and only there

@@ -1,7 +1,7 @@
 //! The bytes that were taken from a source and belong to no message yet.
 ghost use Rattle.std.specs.Prelude.{◌≡◌, ◌≤◌, ◌↔◌, ◌+◌, ◌<◌, IfOk, IsTrue, OnErr, length, drop, [], ◌++◌, vec_len, vec_capacity};
 ghost use Rattle.zot_session.specs.Waiting.{FillFaults, Fills, budget};
-ghost use Rattle.zot_session.specs.Outside.{HasCause, Reads};
+ghost use Rattle.zot_session.specs.Outside.{HasCause, Reads, Takes};
 
 use crate::failed::Failed;
 use crate::source::Source;
@@ -124,7 +124,7 @@ fn read_into<C: Source>(source: &mut C, buffer: &mut [u8], room: usize) -> Resul
     requires { room ≤ length buffer.old }
     ensures cause { HasCause (C.faults source.old) (C.faults source.new) result }
     ensures ok { IfOk result (λ n. Reads (C.left source.old) room buffer.new n (C.left source.new)) }
-    ensures err { OnErr result (C.left source.new ≡ C.left source.old) }
+    ensures err { OnErr result (Takes (C.left source.old) [] (C.left source.new)) }
 {
     source.read(&mut buffer[..room])
 }

@@ -5,7 +5,7 @@ use crate::failed::Failed;
 use crate::source::Source;
 use std::io::Read;
 
-/// A reader of std as a source. It tells nothing of its bytes, and counts each failed read.
+/// A reader of std as a source. It tells the bytes that the reader tells, as a slice does and a terminal, a file or a stream of the network doesn't, and counts each failed read.
 #[derive(Drop)]
 pub struct ReaderSource<R> {
     reader: R,
@@ -23,9 +23,7 @@ impl<R> ReaderSource<R> {
 }
 
 impl<R: Read> Source for ReaderSource<R> {
-    ghost use Rattle.std.specs.Prelude.{None};
-
-    ghost left = { λ _. None };
+    ghost left = { λ s. R.remaining s.reader };
 
     ghost faults = { λ s. s.faults };
 

@@ -84,7 +84,7 @@ fn refuse<K: Sink>(alloc: Global, sink: &mut K, reply: &Reply) -> End
 // Takes the next piece, or ends the connection.
 fn take<C: Source>(inbox: &mut Inbox, source: &mut C) -> Option<End>
     ensures on { IfNone result (TakesPiece inbox.old inbox.new (C.left source.old) (C.left source.new)) }
-    ensures ends { IfSome result (λ end. TakeEnds end inbox.old (C.left source.old) × Takes (C.left source.old) [] (C.left source.new)) }
+    ensures ends { IfSome result (λ end. TakeEnds end inbox.old (C.left source.new) × Takes (C.left source.old) [] (C.left source.new)) }
     ensures read { ReadCause result (C.faults source.old) (C.faults source.new) }
 {
     if inbox.is_full() {

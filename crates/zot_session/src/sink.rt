@@ -1,6 +1,6 @@
 //! Where bytes go.
-ghost use Rattle.std.specs.Prelude.{◌≡◌, IfOk, OnErr};
-ghost use Rattle.zot_session.specs.Outside.{HasCause, Writes};
+ghost use Rattle.std.specs.Prelude.{IfOk, OnErr, []};
+ghost use Rattle.zot_session.specs.Outside.{Appends, HasCause, Writes};
 
 use crate::failed::Failed;
 
@@ -14,9 +14,9 @@ pub trait Sink {
     // How many calls failed so far. The count stands still at the end of 64 bits.
     ghost faults: { Self → ℕ };
 
-    /// Appends the first bytes of the piece, and answers how many: at least one where the piece isn't empty.
+    /// Appends the first bytes of the piece, and answers how many: at least one where the piece isn't empty. An `Err` appended nothing.
     fn write(&mut self, piece: &[u8]) -> Result<usize, Failed>
         ensures cause { HasCause (faults self.old) (faults self.new) result }
         ensures ok { IfOk result (λ n. Writes (held self.old) piece.now n (held self.new)) }
-        ensures err { OnErr result (held self.new ≡ held self.old) };
+        ensures err { OnErr result (Appends (held self.old) [] (held self.new)) };
 }

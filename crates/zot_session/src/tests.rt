@@ -3,8 +3,7 @@ ghost use Rattle.zot_session.specs.Spelling.{HasStatus};
 
 use crate::{
     Answers, End, Front, HEAD_LIMIT, Head, MemorySink, MemorySource, Message, ReaderSource, Sink,
-    Source, WriterSink, end_is_one, front_stays, read_front, read_head, session, spell_reply,
-    status_of, write_all,
+    Source, WriterSink, read_front, read_head, session, spell_reply, status_of, write_all,
 };
 use std::alloc::Global;
 use std::test::Fail;
@@ -237,12 +236,5 @@ fn readers_and_writers(rt: HostRuntime) -> Result<(), Fail> {
     let mut sink = MemorySink::new(alloc, 2, failing);
     assert!(rt; write_all(&mut sink, b"abc").is_err());
     assert!(rt; sink.written() == b"ab".as_slice());
-    Ok(())
-}
-
-#[test]
-fn laws_hold(_rt: HostRuntime) -> Result<(), Fail> {
-    end_is_one();
-    front_stays();
     Ok(())
 }

@@ -5,7 +5,7 @@ use crate::failed::Failed;
 use crate::sink::Sink;
 use std::io::Write;
 
-/// A writer of std as a sink. It tells nothing of its bytes, and counts each failed write; a write that takes nothing of a piece has failed too.
+/// A writer of std as a sink. It tells the bytes that the writer tells, as a `Vec` does and a terminal, a file or a stream of the network doesn't, and counts each failed write; a write that takes nothing of a piece has failed too.
 #[derive(Drop)]
 pub struct WriterSink<W> {
     writer: W,
@@ -23,9 +23,7 @@ impl<W> WriterSink<W> {
 }
 
 impl<W: Write> Sink for WriterSink<W> {
-    ghost use Rattle.std.specs.Prelude.{None};
-
-    ghost held = { λ _. None };
+    ghost held = { λ s. W.contents s.writer };
 
     ghost faults = { λ s. s.faults };
 

@@ -1,3 +1,4 @@
+pub mod ArgumentLemmas
 pub mod EntryLemmas
 pub mod NoteLemmas
 pub mod WordLemmas
