@@ -1,6 +1,5 @@
 -- What the calls promise, from what their steps told.
-use Rattle.std.proofs.Common.{append_assoc, ◌≡◌, ◌<◌, ◌≤◌, ◌+◌, ◌/◌, ℕ, max, List, [], ◌∷◌, ◌++◌, Bool, true, false, cond, ltb, length, Option, Some, None, Contains, sym, refl, ap, ◌∙◌, subst, arith, append-nil, length-append, ltb-true, ltb-false}
-use Rattle.std.specs.List.{AllByRecursion}
+use Rattle.std.proofs.Common.{append_assoc, ◌≡◌, ◌<◌, ◌≤◌, ◌+◌, ◌/◌, ℕ, max, List, [], ◌∷◌, ◌++◌, Bool, true, false, cond, ltb, length, Option, Some, None, sym, refl, ap, ◌∙◌, subst, arith, append-nil, length-append, ltb-true, ltb-false}
 use mathlib.Core.List.{IsPrefix}
 use mathlib.Core.Option.{none, some, some-injective}
 use lib.ListN.{get_elem?}
@@ -14,17 +13,26 @@ use Rattle.zot_turn.proofs.Turns.{history-append, replays_append, history_push}
 use Rattle.zot_turn.proofs.Totals.{numbers_with, times-append, times_first, times_contained, numbers-append}
 use Rattle.zot_turn.proofs.Changes.{times_owned}
 use Rattle.atomic_table.specs.Seated.{TableId}
-use Rattle.zot_turn.specs.Seats.{Standing, Stands, IsOwed, Turned, Parted, Joined, IsLater, HasAll, seen}
+use Rattle.zot_turn.specs.Seats.{Home, Standing, Stands, IsOwed, Turned, Parted, Joined, IsLater, HasAll, seen}
 use Rattle.zot_turn.specs.Views.{standing_of, IsAtRest}
 use Rattle.zot_turn.proofs.Turns.{history_prefix}
 use Rattle.zot_turn.proofs.Giving.{own_after}
-use Rattle.zot_turn.proofs.Closing.{closes_last}
+use Rattle.zot_turn.proofs.Closing.{Closes, closes_last}
 
 same_some : {O : Type 0} (x y : O) → Some x ≡ Some y → x ≡ y
 same_some x y e = cc e
 
 same_value : {O : Type 0} (x y : O) (more : List (ℕ × Option O)) → (0, Some x) ∷ more ≡ (0, Some y) ∷ [] → x ≡ y
 same_value {O} x y more e = let p : (0, Some x) ≡ (0, Some y) = cc e in same_some x y (ap (λ (q : ℕ × Option O). q.1) p)
+
+module _ {O E : Type 0} (place table : TableId) (key : O) (v : Known O E) (seat : Standing O E) (home : Home O) (seat_is : standing_of place v ≡ seat) (at_home : seat.home ≡ home) (home_is : record { table = table; opening = Some key } ≡ home) where
+  -- a seat of a shared value knows what that was opened with
+  pub opened : v.opening ≡ Some key
+  opened = ap (λ (s : Standing O E). s.home.opening) seat_is ∙ ap (λ (h : Home O). h.opening) at_home ∙ sym (ap (λ (h : Home O). h.opening) home_is)
+
+  -- and it is a seat of that value's table
+  pub placed : place ≡ table
+  placed = ap (λ (s : Standing O E). s.home.table) seat_is ∙ ap (λ (h : Home O). h.table) at_home ∙ sym (ap (λ (h : Home O). h.table) home_is)
 
 module _ {O E : Type 0} where
   pub has_number : (number turns : ℕ) (me : Me (Option O) (Known O E)) → IsAtRest number turns me → HasNumber me.0.mine
@@ -215,18 +223,14 @@ module _ {O E : Type 0} (step : O → ℕ → E → O → Type 0) (origin : O) (
   joined_seats here there a b = subst (λ (s : Standing O E × Standing O E). Joined step (standing_of table me.0) s.0 s.1) (λ i. (standing_of (sym b i) other.0, standing_of (sym a i) (sym now_is_joined i).0)) joined_views
 
 -- what a closing shows of the slot that is handed out
-pub record Ends {O E : Type 0} (step : O → ℕ → E → O → Type 0) (origin : O) (slots : List (Option O)) (v : Known O E) : Type 0 where
-  pub value : O
-  pub there : get_elem? slots 0 ≡ some (Some value)
-  pub stood : Replays step origin (history v.turns) value
-  pub all : AllByRecursion (λ t. Contains (numbers v.mine) t.0) v.turns
-  pub own : HasOwn v.mine (history v.turns)
+abbrev pub Ends : {O E : Type 0} → (O → ℕ → E → O → Type 0) → O → List (Option O) → Known O E → Type 0
+Ends step origin slots v = Closes step origin (λ x. get_elem? slots 0 ≡ some (Some x)) v
 
 module _ {O E : Type 0} (step : O → ℕ → E → O → Type 0) (origin : O) (table : TableId) (number turns : ℕ) (me : Me (Option O) (Known O E)) (r : IsAtRest number turns me) where
   pub ends : (id : ℕ) (words : List ℕ) (slots : List (Option O)) → Final (Seen (Kept step origin) id me.0) words slots → HasAll (standing_of table me.0) → Ends step origin slots me.0
   ends id words slots fin all =
       let c = closes_last step origin fin.0 fin.1.0 id me.0 fin.1.1 r.holding r.ready all.0 all.1 in
-      record { value = c.value; there = fin.4 0 (Some c.value) (ap (λ h. get_elem? h 0) c.home); stood = c.stood; all = c.all; own = c.own }
+      record { value = c.value; there = fin.4 0 (Some c.value) (ap (λ h. get_elem? h 0) c.there); stood = c.stood; all = c.all; own = c.own; shown = c.shown }
 
   pub never_empty : (slots : List (Option O)) → Ends step origin slots me.0 → get_elem? slots 0 ≡ some None → ⊥
   never_empty slots e h = let p : Some e.value ≡ None = some-injective (Some e.value) None (sym e.there ∙ h) in cc p

@@ -1,10 +1,11 @@
 -- For the users of shared values: what each step keeps holds at the end of a history.
-use Rattle.std.proofs.Common.{◌≡◌, ◌≢◌, ℕ, List, [], ◌∷◌, ◌++◌, Bool, cond, Option, Some, None, IsSomeAnd, sym, refl, ap, ◌∙◌, subst, append_assoc, append-nil, eq-eqb, ne_eqb}
+use Rattle.std.proofs.Common.{◌≡◌, ◌≢◌, ℕ, List, [], ◌∷◌, ◌++◌, Bool, cond, map, Option, Some, None, IsSomeAnd, sym, refl, ap, ◌∙◌, subst, append_assoc, append-nil, eq-eqb, ne_eqb}
 use mathlib.Core.Logic.{dite}
 use native.Mathlib.Decide.{ℕ_discrete}
 use Rattle.zot_turn.specs.History.{Replays, entries_of}
-use Rattle.zot_turn.specs.Seats.{Home, Standing, Stands, IsLater}
+use Rattle.zot_turn.specs.Seats.{Home, Standing, Stands, IsLater, HasMade, acting, numbers, with_entries}
 use Rattle.zot_turn.proofs.Lists.{prefix_refl, prefix_trans}
+use Rattle.zot_turn.proofs.Totals.{with_none, with_more}
 
 module _ {O E : Type 0} (step : O → ℕ → E → O → Type 0) where
   -- a fact that each step carries on
@@ -41,6 +42,22 @@ module _ {O E : Type 0} where
   pub later_later : (s t u : Standing O E) → IsLater s t → IsLater t u → IsLater s u
   later_later s t u a b = record { home = b.home ∙ a.home; numbers = b.numbers ∙ a.numbers; gave = b.gave ∙ a.gave; turns = prefix_trans s.turns t.turns u.turns a.turns b.turns }
 
+  -- and acts in the same number
+  pub later_acting : (s t : Standing O E) → IsLater s t → acting t.mine ≡ acting s.mine
+  later_acting s t l = first_of t.mine s.mine l.numbers
+    where
+      first_of : (xs ys : List (ℕ × List E)) → numbers xs ≡ numbers ys → acting xs ≡ acting ys
+      first_of [] [] e = refl
+      first_of [] (y ∷ ys) e = absurd (cc e)
+      first_of (x ∷ xs) [] e = absurd (cc e)
+      first_of (x ∷ xs) (y ∷ ys) e = cc e
+
+  pub made_none : (s : Standing O E) → HasMade [] s s
+  made_none s = record { later = same_later s; mine = sym (with_none s.mine) }
+
+  pub made_more : (xs ys : List E) (s t u : Standing O E) → HasMade xs s t → HasMade ys t u → HasMade (xs ++ ys) s u
+  made_more xs ys s t u a b = record { later = later_later s t u a.later b.later; mine = b.mine ∙ ap (with_entries ys) a.mine ∙ with_more xs ys s.mine }
+
 -- where each step only lets a seat inside the value see and make more, so does a history
 pub inner_later : {V X O E : Type 0} (step : V → ℕ → X → V → Type 0) (seat : V → Standing O E) → ((a b : V) (n : ℕ) (e : X) → step a n e b → IsLater (seat a) (seat b)) → (a b : V) (es : List (ℕ × X)) → Replays step a es b → IsLater (seat a) (seat b)
 inner_later step seat each a b es h = carried step (λ v. IsLater (seat a) (seat v)) (λ v w n e s l. later_later (seat a) (seat v) (seat w) l (each v w n e s)) a b es h (same_later (seat a))
@@ -53,3 +70,9 @@ from_opening {O} {E} step home opening value es is stands = subst (λ (o : Optio
 pub stands_later : {V X O E : Type 0} (step : V → ℕ → X → V → Type 0) (seat : V → Standing O E) → ((a b : V) (n : ℕ) (e : X) → step a n e b → IsLater (seat a) (seat b))
     → (home : Home V) (opening value : V) (es : List (ℕ × X)) → home.opening ≡ Some opening → Stands step home es value → IsLater (seat opening) (seat value)
 stands_later step seat each home opening value es is stands = inner_later step seat each opening value es (from_opening step home opening value es is stands)
+
+-- where each step's entry is the one that a seat inside the value made, a history's entries are those that it made
+pub inner_made : {V O E : Type 0} (step : V → ℕ → E → V → Type 0) (seat : V → Standing O E) → ((a b : V) (n : ℕ) (e : E) → step a n e b → HasMade (e ∷ []) (seat a) (seat b))
+    → (a b : V) (es : List (ℕ × E)) → Replays step a es b → HasMade (map (λ e. e.1) es) (seat a) (seat b)
+inner_made step seat each a b [] h = subst (λ v. HasMade [] (seat a) (seat v)) h (made_none (seat a))
+inner_made step seat each a b (x ∷ xs) h = made_more (x.1 ∷ []) (map (λ e. e.1) xs) (seat a) (seat h.0) (seat b) (each a h.0 x.0 x.1 h.1) (inner_made step seat each h.0 b xs h.2)

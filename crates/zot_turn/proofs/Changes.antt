@@ -5,12 +5,12 @@ use mathlib.Core.Logic.{dite}
 use mathlib.Core.Option.{none, some, some-injective}
 use native.Mathlib.Decide.{ℕ_discrete}
 use lib.ListN.{get_elem?}
-use Rattle.atomic_table.specs.Table.{State}
+use Rattle.atomic_table.specs.Table.{State, Me}
 use Rattle.atomic_table.proofs.Lists.{at_set, set_here, set_else, set_again}
 use Rattle.zot_turn.specs.declared.known.Known.{Known}
 use Rattle.zot_turn.specs.History.{Replays, history, turns_of}
 use Rattle.zot_turn.specs.Seats.{numbers, acting}
-use Rattle.zot_turn.specs.Steps.{times, once, blank, owned, Fits, Recorded, Kept, HasNumber}
+use Rattle.zot_turn.specs.Steps.{times, total, once, blank, owned, Fits, Recorded, Kept, HasNumber}
 use Rattle.zot_turn.proofs.Totals.{total_set, total_at, total_two, place_within, times_first, times-append, numbers-append, numbers_blank}
 
 pub once_some : (b : Bool) → 0 < once b → b ≡ true
@@ -68,6 +68,29 @@ module _ {O E : Type 0} (step : O → ℕ → E → O → Type 0) (origin : O) w
       (λ (x : (j ≡ id) × (w ≡ u)). subst (Fits origin log drawn) x.1 mine)
       (λ (x : (j ≢ id) × (get_elem? views j ≡ some u)). others j u x.0 x.1)
       (at_set views id j w u e)
+
+  -- the rule where the views alone are others
+  pub reviewed : (s : State (Option O) (Known O E)) (k : Kept step origin s) (views : List (Known O E))
+      → ((j : ℕ) (u : Known O E) → get_elem? views j ≡ some u → Fits origin k.log k.drawn u)
+      → ((n : ℕ) → total (λ u. times n (numbers (owned u))) views ≡ total (λ u. times n (numbers (owned u))) s.views)
+      → ((n : ℕ) → Recorded n s.views → Recorded n views)
+      → total (λ u. once u.holding) views ≡ total (λ u. once u.holding) s.views
+      → Kept step origin record { words = s.words; homes = s.homes; views = views }
+  reviewed s k views known apart recorded holder = record {
+    log = k.log;
+    value = k.value;
+    held = k.held;
+    drawn = k.drawn;
+    words = k.words;
+    legal = k.legal;
+    slot = k.slot;
+    known = known;
+    apart = λ n. apart n ∙ k.apart n;
+    recorded = λ n l ne. recorded n (k.recorded n l ne);
+    undrawn = k.undrawn;
+    zero_drawn = k.zero_drawn;
+    holder = holder ∙ k.holder;
+  }
 
   -- the rule after a step that changes the words, the slot and one view
   pub changed : (s : State (Option O) (Known O E)) (k : Kept step origin s) (id : ℕ) (v w : Known O E) → get_elem? s.views id ≡ some v
@@ -136,6 +159,10 @@ module _ {O E : Type 0} (step : O → ℕ → E → O → Type 0) (origin : O) w
 
     pub other_holds_not : (i j : ℕ) (v w : Known O E) → i ≢ j → get_elem? s.views i ≡ some v → get_elem? s.views j ≡ some w → v.holding ≡ true → w.holding ≡ false
     other_holds_not i j v w ne a b h = let f : Known O E → ℕ = λ u. once u.holding in not_once w.holding (omega (arith, total_two f s.views i j v w ne a b, k.holder, once_le k.held, once_true v.holding h))
+
+-- a seat that a step left as it was
+pub same_still : {O E : Type 0} (now was first : Me (Option O) (Known O E)) → now ≡ was → was ≡ first → now ≡ first
+same_still now was first a b = a ∙ b
 
 -- what a compare and exchange tells where it found the word expected, and where it did not
 pub hit : (P Q : Type 0) (n old : ℕ) → n ≡ old → MatchBool (n == old) P Q → P

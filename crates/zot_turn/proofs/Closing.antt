@@ -2,7 +2,7 @@
 use Rattle.std.proofs.Common.{◌≡◌, ◌≢◌, ◌==◌, ◌<◌, ◌≤◌, ℕ, zero, suc, List, [], ◌∷◌, ◌++◌, Bool, true, false, cond, length, Option, Some, Contains, sym, refl, ap, ◌∙◌, subst, arith, append-nil, length-append, eq-eqb, lt_of_not-le}
 use Rattle.std.specs.List.{AllByRecursion}
 use mathlib.Core.Logic.{dite}
-use mathlib.Core.Option.{none, some, some-injective, some-ne-none}
+use mathlib.Core.Option.{none, some}
 use native.Mathlib.Decide.{ℕ_discrete, dec_le}
 use lib.ListN.{get_elem?}
 use Rattle.atomic_table.specs.Table.{State}
@@ -17,7 +17,7 @@ use Rattle.zot_turn.proofs.Changes.{once_some, once_true, never, one_view, its_d
 
 module _ {E : Type 0} where
   -- a number whose turns end with one has some
-  stands_there : (t : ℕ × List E) (ts : List (ℕ × List E)) → turns_of t.0 (t ∷ ts) ≡ [] → ⊥
+  pub stands_there : (t : ℕ × List E) (ts : List (ℕ × List E)) → turns_of t.0 (t ∷ ts) ≡ [] → ⊥
   stands_there t ts h = let e : turns_of t.0 (t ∷ ts) ≡ t ∷ turns_of t.0 ts = ap (λ (b : Bool). cond b (t ∷ turns_of t.0 ts) (turns_of t.0 ts)) (eq-eqb t.0 t.0 refl) in let c : t ∷ turns_of t.0 ts ≡ [] = sym e ∙ h in cc c
 
   tail_idle : (b : Bool) (t : ℕ × List E) (ts : List (ℕ × List E)) → cond b (t ∷ ts) ts ≡ [] → ts ≡ []
@@ -29,13 +29,14 @@ module _ {E : Type 0} where
   each_below d [] h = tt
   each_below d (t ∷ ts) h = (dite (dec_le d t.0) (λ (l : d ≤ t.0). absurd (stands_there t ts (h t.0 l))) (λ n. lt_of_not-le n), each_below d ts (λ n l. tail_idle (t.0 == n) t (turns_of n ts) (h n l)))
 
--- what a closing shows: the value is at home, and the seat has seen all
-pub record Closes {O E : Type 0} (step : O → ℕ → E → O → Type 0) (origin : O) (homes : List (mathlib.Core.Option.Option (Option O))) (v : Known O E) : Type 0 where
+-- what a closing shows: the value is there, and the seat has seen all
+pub record Closes {O E : Type 0} (step : O → ℕ → E → O → Type 0) (origin : O) (Has : O → Type 0) (v : Known O E) : Type 0 where
   pub value : O
-  pub home : homes ≡ some (Some value) ∷ []
+  pub there : Has value
   pub stood : Replays step origin (history v.turns) value
   pub all : AllByRecursion (λ t. Contains (numbers v.mine) t.0) v.turns
   pub own : HasOwn v.mine (history v.turns)
+  pub shown : v.shown ≤ length v.turns
 
 module _ {O E : Type 0} (step : O → ℕ → E → O → Type 0) (origin : O) where
   module _ (s : State (Option O) (Known O E)) (k : Kept step origin s) (id : ℕ) (v : Known O E) (at : get_elem? s.views id ≡ some v) (idle : v.holding ≡ false) (ready : v.ready ≡ [])
@@ -90,14 +91,15 @@ module _ {O E : Type 0} (step : O → ℕ → E → O → Type 0) (origin : O) w
     seen_all : v.turns ≡ k.log
     seen_all = let p = (k.known id v at).seen in sym (append-nil v.turns) ∙ ap (λ (l : List (ℕ × List E)). v.turns ++ l) (sym (none_after p.0 p.1)) ∙ p.1
 
-    pub closes_last : Closes step origin s.homes v
+    pub closes_last : Closes step origin (λ x. s.homes ≡ some (Some x) ∷ []) v
     closes_last =
         let f = k.known id v at in
         let rests = at_rest k.held refl in
         record {
           value = k.value;
-          home = k.slot ∙ ap (λ (b : Bool). cond b none (some (Some k.value)) ∷ []) rests;
+          there = k.slot ∙ ap (λ (b : Bool). cond b none (some (Some k.value)) ∷ []) rests;
           stood = subst (λ (l : List (ℕ × List E)). Replays step origin (history l) k.value) (sym seen_all) k.legal;
           all = each_map (λ t. t.0 < k.drawn) (λ t. Contains (numbers v.mine) t.0) v.turns (λ t l. contained_times t.0 (numbers v.mine) (drawn_its t.0 l)) (each_below k.drawn v.turns (λ n l. ap (turns_of n) seen_all ∙ k.undrawn n l));
           own = each_left (λ m. entries_of m.0 (history v.turns) ≡ m.1) v.mine (blank v.ready) f.own;
+          shown = omega (arith, f.shown, ap length seen_all);
         }

@@ -16,7 +16,7 @@ use Rattle.zot_turn.specs.Steps.{times, once, blank, owned, Fits, Recorded, Kept
 use Rattle.zot_turn.proofs.Lists.{prefix_refl, prefix_nil, each_map, each_zip, each_append, each_left, each_right}
 use Rattle.zot_turn.proofs.Turns.{same_entries, squeezed, Longer, longer_is}
 use Rattle.zot_turn.proofs.Totals.{times-append, numbers-append, total_set, place_within}
-use Rattle.zot_turn.proofs.Changes.{once_false, never, times_owned, one_view, recorded_set, fits_set}
+use Rattle.zot_turn.proofs.Changes.{once_false, never, times_owned, one_view, recorded_set, fits_set, reviewed}
 
 module _ {A : Type 0} where
   -- two lists in two parts each, in the order of a join
@@ -111,22 +111,10 @@ module _ {O E : Type 0} (step : O → ℕ → E → O → Type 0) (origin : O) w
           (λ m. omega (arith, times-append m v.gave v.ready, times-append m (v.gave ++ w.gave) (v.ready ++ w.ready), times-append m v.gave w.gave, times-append m v.ready w.ready)) r)
 
     pub joins_seats : Joins (Kept step origin) id v other w (joined v w) spent_known
-    joins_seats s k at apart there = record {
-      log = k.log;
-      value = k.value;
-      held = k.held;
-      drawn = k.drawn;
-      words = k.words;
-      legal = k.legal;
-      slot = k.slot;
-      known = fits_set step origin k.log k.drawn (set s.views id (joined v w)) other spent_known (λ j u ne e. fits_both s k at apart there j u e) (fits_spent k.log k.drawn);
-      apart = λ n.
-          let f : Known O E → ℕ = λ u. times n (numbers (owned u)) in
-          omega (arith, total_set f (set s.views id (joined v w)) other w spent_known there, total_set f s.views id v (joined v w) at, k.apart n, times_joined n v w);
-      recorded = λ n l ne. recorded_joined s k at apart there n (k.recorded n l ne);
-      undrawn = k.undrawn;
-      zero_drawn = k.zero_drawn;
-      holder =
-          let f : Known O E → ℕ = λ u. once u.holding in
-          omega (arith, total_set f (set s.views id (joined v w)) other w spent_known there, total_set f s.views id v (joined v w) at, k.holder, once_false w.holding free);
-    }
+    joins_seats s k at apart there = reviewed step origin s k (set (set s.views id (joined v w)) other spent_known)
+        (fits_set step origin k.log k.drawn (set s.views id (joined v w)) other spent_known (λ j u ne e. fits_both s k at apart there j u e) (fits_spent k.log k.drawn))
+        (λ n.
+        let f : Known O E → ℕ = λ u. times n (numbers (owned u)) in
+        omega (arith, total_set f (set s.views id (joined v w)) other w spent_known there, total_set f s.views id v (joined v w) at, times_joined n v w))
+        (λ n r. recorded_joined s k at apart there n r)
+        (let f : Known O E → ℕ = λ u. once u.holding in omega (arith, total_set f (set s.views id (joined v w)) other w spent_known there, total_set f s.views id v (joined v w) at, once_false w.holding free))

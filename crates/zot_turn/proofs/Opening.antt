@@ -1,5 +1,5 @@
 -- The rule at the start.
-use Rattle.std.proofs.Common.{◌≡◌, ◌≢◌, ◌+◌, ℕ, zero, suc, [], ◌∷◌, false, ltb, Some, sym, refl, ap, subst, arith, lt-ltb, le-ltb}
+use Rattle.std.proofs.Common.{◌≡◌, ◌≢◌, ◌+◌, ◌++◌, ◌∙◌, ℕ, zero, suc, List, [], ◌∷◌, false, ltb, Option, Some, sym, refl, ap, subst, arith, lt-ltb, le-ltb}
 use mathlib.Core.Logic.{dite}
 use mathlib.Core.Option.{some, some-injective, some-ne-none}
 use native.Mathlib.Decide.{ℕ_discrete}
@@ -10,6 +10,10 @@ use Rattle.zot_turn.specs.Steps.{times, once, Fits, Kept, first_known}
 use Rattle.zot_turn.proofs.Lists.{prefix_refl}
 use Rattle.zot_turn.proofs.Totals.{times_one, times_other}
 use Rattle.zot_turn.proofs.Changes.{never}
+
+-- a list that was empty, with one value put behind it
+pub pushed : {O : Type 0} (was now : List (Option O)) (put value : O) → was ≡ [] → now ≡ was ++ Some put ∷ [] → value ≡ put → now ≡ Some value ∷ []
+pushed was now put value empty more same = more ∙ (λ i. empty i ++ Some (sym same i) ∷ [])
 
 module _ {O E : Type 0} (step : O → ℕ → E → O → Type 0) (origin : O) where
   fits_first : Fits origin [] 1 (first_known {E = E} origin)

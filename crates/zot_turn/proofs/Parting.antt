@@ -11,7 +11,7 @@ use Rattle.zot_turn.specs.Seats.{numbers}
 use Rattle.zot_turn.specs.Steps.{times, once, blank, owned, Fits, Kept, giver, taker}
 use Rattle.zot_turn.proofs.Lists.{prefix_nil, each_append, each_left, each_right}
 use Rattle.zot_turn.proofs.Totals.{times_first, numbers_blank, total_set, total_push}
-use Rattle.zot_turn.proofs.Changes.{never, times_owned, recorded_set, fits_set, its_drawn}
+use Rattle.zot_turn.proofs.Changes.{never, times_owned, recorded_set, fits_set, reviewed, its_drawn}
 
 -- each of these is drawn, where what stands among them is
 each_drawn : (d : ℕ) (ns : List ℕ) → ((n : ℕ) → 0 < times n ns → n < d) → AllByRecursion (λ n. n < d) ns
@@ -53,27 +53,15 @@ module _ {O E : Type 0} (step : O → ℕ → E → O → Type 0) (origin : O) w
     times_taker n = times_owned n (taker v) ∙ ap (λ (l : List ℕ). times n l + 0) (numbers_blank E v.ready)
 
   pub parts_seat : (id : ℕ) (v : Known O E) → Splits (Kept step origin) id v (giver v) (taker v)
-  parts_seat id v s k at = record {
-    log = k.log;
-    value = k.value;
-    held = k.held;
-    drawn = k.drawn;
-    words = k.words;
-    legal = k.legal;
-    slot = k.slot;
-    known = λ j u e. ⊎_elim
-        (λ was. fits_set step origin k.log k.drawn s.views id (giver v) (λ i w ne a. k.known i w a) (fits_giver s k id v at) j u was)
-        (λ (is : taker v ≡ u). subst (Fits origin k.log k.drawn) is (fits_taker s k id v at))
-        (at_snoc (set s.views id (giver v)) (taker v) u j e);
-    apart = λ n.
-        let f : Known O E → ℕ = λ u. times n (numbers (owned u)) in
-        omega (arith, total_push f (set s.views id (giver v)) (taker v), total_set f s.views id v (giver v) at, k.apart n, times_owned n v, times_giver s k id v at n, times_taker s k id v at n);
-    recorded = λ n l ne.
-        let r = recorded_set n s.views id v (giver v) at (λ m. omega arith) (λ m. omega (arith, ap (times m) (append-nil (v.gave ++ v.ready)))) (k.recorded n l ne) in
-        record { id = r.id; view = r.view; by = r.by; there = at_longer (set s.views id (giver v)) (taker v ∷ []) r.id r.view r.there; less = r.less; its = r.its; noted = r.noted };
-    undrawn = k.undrawn;
-    zero_drawn = k.zero_drawn;
-    holder =
-        let f : Known O E → ℕ = λ u. once u.holding in
-        omega (arith, total_push f (set s.views id (giver v)) (taker v), total_set f s.views id v (giver v) at, k.holder);
-  }
+  parts_seat id v s k at = reviewed step origin s k (set s.views id (giver v) ++ taker v ∷ [])
+      (λ j u e. ⊎_elim
+      (λ was. fits_set step origin k.log k.drawn s.views id (giver v) (λ i w ne a. k.known i w a) (fits_giver s k id v at) j u was)
+      (λ (is : taker v ≡ u). subst (Fits origin k.log k.drawn) is (fits_taker s k id v at))
+      (at_snoc (set s.views id (giver v)) (taker v) u j e))
+      (λ n.
+      let f : Known O E → ℕ = λ u. times n (numbers (owned u)) in
+      omega (arith, total_push f (set s.views id (giver v)) (taker v), total_set f s.views id v (giver v) at, times_owned n v, times_giver s k id v at n, times_taker s k id v at n))
+      (λ n had.
+      let r = recorded_set n s.views id v (giver v) at (λ m. omega arith) (λ m. omega (arith, ap (times m) (append-nil (v.gave ++ v.ready)))) had in
+      record { id = r.id; view = r.view; by = r.by; there = at_longer (set s.views id (giver v)) (taker v ∷ []) r.id r.view r.there; less = r.less; its = r.its; noted = r.noted })
+      (let f : Known O E → ℕ = λ u. once u.holding in omega (arith, total_push f (set s.views id (giver v)) (taker v), total_set f s.views id v (giver v) at))

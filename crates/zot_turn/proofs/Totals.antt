@@ -1,5 +1,5 @@
 -- Counting over the views: how often a number stands, and what a change of one view changes.
-use Rattle.std.proofs.Common.{◌≡◌, ◌≢◌, ◌==◌, ◌<◌, ◌≤◌, ◌+◌, ℕ, zero, suc, List, [], ◌∷◌, ◌++◌, Bool, cond, length, set, get_or, sym, refl, ap, subst, arith, eq-eqb, ne_eqb, ⊎_elim, eq-zero-or-pos}
+use Rattle.std.proofs.Common.{◌≡◌, ◌≢◌, ◌==◌, ◌<◌, ◌≤◌, ◌+◌, ℕ, zero, suc, List, [], ◌∷◌, ◌++◌, Bool, cond, length, set, get_or, sym, refl, ap, subst, arith, append_assoc, append-nil, eq-eqb, ne_eqb, ⊎_elim, eq-zero-or-pos}
 use Rattle.std.specs.List.{AllByRecursion, Contains}
 use Rattle.std.proofs.lemmas.List.{map-append}
 use mathlib.Core.Logic.{dite}
@@ -53,6 +53,14 @@ module _ {E : Type 0} where
   pub numbers_with : (es : List E) (mine : List (ℕ × List E)) → numbers (with_entries es mine) ≡ numbers mine
   numbers_with es [] = refl
   numbers_with es (m ∷ ms) = refl
+
+  pub with_none : (mine : List (ℕ × List E)) → with_entries [] mine ≡ mine
+  with_none [] = refl
+  with_none (m ∷ ms) = ap (λ (l : List E). (m.0, l) ∷ ms) (append-nil m.1)
+
+  pub with_more : (xs ys : List E) (mine : List (ℕ × List E)) → with_entries ys (with_entries xs mine) ≡ with_entries (xs ++ ys) mine
+  with_more xs ys [] = refl
+  with_more xs ys (m ∷ ms) = ap (λ (l : List E). (m.0, l) ∷ ms) (append_assoc m.1 xs ys)
 
   -- a fact of each number holds of one that stands among them
   pub each_number : (Q : ℕ → Type 0) (mine : List (ℕ × List E)) → AllByRecursion (λ (m : ℕ × List E). Q m.0) mine → (n : ℕ) → 0 < times n (numbers mine) → Q n

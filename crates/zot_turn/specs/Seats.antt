@@ -98,9 +98,14 @@ pub record Joined {O E : Type 0} (step : O → ℕ → E → O → Type 0) (old 
   pub distinct : (n : ℕ) → Contains (numbers old.mine) n → ¬ Contains (numbers other.mine) n
   pub legal : (value : O) × Stands step new.home (seen new) value
 
--- the same seat later: it has only seen and made more
+-- the same seat later: its shared value, its numbers and those that it gave are the same, and what it had seen begins what it has seen
 pub record IsLater {O E : Type 0} (old new : Standing O E) : Type 0 where
   pub home : new.home ≡ old.home
   pub numbers : numbers new.mine ≡ numbers old.mine
   pub gave : new.gave ≡ old.gave
   pub turns : IsPrefix old.turns new.turns
+
+-- the same seat later, whose acting number has these entries more, and whose other numbers have none
+pub record HasMade {O E : Type 0} (entries : List E) (old new : Standing O E) : Type 0 where
+  pub later : IsLater old new
+  pub mine : new.mine ≡ with_entries entries old.mine

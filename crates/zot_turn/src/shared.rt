@@ -1,5 +1,5 @@
 // The shared value.
-ghost use Rattle.std.specs.Prelude.{◌≡◌, ◌<◌, ℕ, [], ◌∷◌, ◌++◌, length, max, IsOk, IfOk, Some};
+ghost use Rattle.std.specs.Prelude.{◌≡◌, ◌<◌, ◌≤◌, ℕ, [], ◌∷◌, ◌++◌, length, max, IsOk, IfOk, Some};
 ghost use Rattle.std.specs.List.{Contains, AllByRecursion};
 ghost use mathlib.Core.List.{IsPrefix};
 ghost use Rattle.zot_turn.specs.Seats.{Turned, Parted, Joined, IsLater, IsOwed, HasAll, HasOwn, Stands, acting, numbers, seen};
@@ -110,6 +110,7 @@ impl<O: Object> Shared<O> {
     pub fn wait_change(&self, rt: &impl Wait, seat: &mut Seat<O>)
         requires { seat.old.home ≡ self.now }
         ensures shown { length seat.old.turns < seat.new.shown }
+        ensures risen { seat.old.shown ≤ seat.new.shown }
         ensures same { seat.new ≡ record seat.old { shown = seat.new.shown } }
     {
         watch(rt, &self.table.shared, &mut seat.inner, seat.turns);
@@ -122,6 +123,7 @@ impl<O: Object> Shared<O> {
         ensures stands { Stands O.step seat.home (seen seat) result }
         ensures all { AllByRecursion (λ t. Contains (numbers seat.mine) t.0) seat.turns }
         ensures own { HasOwn seat.mine (seen seat) }
+        ensures shown { seat.shown ≤ length seat.turns }
     {
         let SeatAt {
             inner,

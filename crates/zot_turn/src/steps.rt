@@ -1,5 +1,5 @@
 // The steps that a seat takes on the table.
-ghost use Rattle.std.specs.Prelude.{◌≡◌, ◌+◌, ◌%◌, ◌^◌, ◌<◌, [], ◌∷◌, IsTrue, Some, None};
+ghost use Rattle.std.specs.Prelude.{◌≡◌, ◌+◌, ◌%◌, ◌^◌, ◌<◌, ◌≤◌, ◌↔◌, [], ◌∷◌, IsTrue, Some, None};
 ghost use Rattle.zot_turn.specs.Steps.{Takes, MayGive, Drawn, IsBoard, HasNumber, after_turn};
 
 use crate::known::Known;
@@ -25,7 +25,7 @@ const LOW: u64 = 0xffff_ffff;
 
 // Whether a turn can be taken and given back: none is held, and the count of turns has room for one more.
 fn is_free(word: u64) -> bool
-    ensures { IsTrue result → (word % 2 ≡ 0) × (word + 3 < 2 ^ 64) }
+    ensures { IsTrue result ↔ ((word % 2 ≡ 0) × (word + 3 < 2 ^ 64)) }
 {
     word % 2 == 0 && word < u64::MAX - 2
 }
@@ -37,7 +37,8 @@ fn rest<O: Object, R: Wait>(rt: &R, board: &Board<O>, word: usize, was: u64)
     board.park(rt, word, (was & LOW) as u32);
 }
 
-/// Waits for the turn, and answers the word that it found, which is twice the number of turns before.
+/// Waits for the turn, and answers the word that it found, which is twice the number of turns before. Where the count of turns
+/// has no room for one more it waits for ever.
 pub(crate) fn take<O: Object, R: Wait>(rt: &R, board: &Board<O>, seat: &mut Chair<O>) -> u64
     requires board { IsBoard board.now.table_id seat.old.table_id }
     requires acts { HasNumber seat.old.me.0.mine }
@@ -125,11 +126,12 @@ pub(crate) fn draw<O: Object, R: Wait>(rt: &R, board: &Board<O>, seat: &mut Chai
     unreachable!()
 }
 
-/// Waits until a look shows more turns than these, and answers how many.
+/// Waits until a look shows more turns than these.
 pub(crate) fn watch<O: Object, R: Wait>(rt: &R, board: &Board<O>, seat: &mut Chair<O>, turns: u64)
     requires { IsBoard board.now.table_id seat.old.table_id }
     ensures seat { (seat.new.table_id ≡ seat.old.table_id) × (seat.new.id ≡ seat.old.id) }
-    ensures looked { (turns < seat.new.me.0.shown) × (seat.new.me ≡ (record seat.old.me.0 { shown = seat.new.me.0.shown }, seat.old.me.1)) }
+    ensures looked { (turns < seat.new.me.0.shown) × (seat.old.me.0.shown ≤ seat.new.me.0.shown) }
+    ensures same { seat.new.me ≡ (record seat.old.me.0 { shown = seat.new.me.0.shown }, seat.old.me.1) }
 {
     for _ in rt.forever() {
         let word = board.load::<Look>(seat, 0);

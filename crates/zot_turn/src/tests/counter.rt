@@ -1,6 +1,7 @@
 // A number that each turn raises by one.
-ghost use Rattle.std.specs.Prelude.{◌≡◌, ◌≢◌, ◌+◌, ◌%◌, ◌^◌, ◌<◌, ℕ, List, [], ◌∷◌, length, map, slice_index, IfOk, Some};
-ghost use Rattle.zot_turn.specs.Seats.{acting, seen};
+ghost use Rattle.std.specs.Prelude.{◌≡◌, ◌+◌, ◌<◌, ℕ, length, map, slice_index, IfOk, Some};
+ghost use Rattle.zot_turn.specs.Raising.{HasMore, HasRaised, HasAwaited, IsPair};
+ghost use Rattle.zot_turn.specs.Seats.{seen};
 
 use crate::{Job, NoMemory, Object, Seat, Shared};
 use std::alloc::Global;
@@ -14,10 +15,10 @@ const TURNS: u64 = 1000;
 impl Object for u64 {
     type Entry = u64;
 
-    ghost use Rattle.std.specs.Prelude.{◌≡◌, ◌+◌, ◌%◌, ◌^◌};
+    ghost use Rattle.zot_turn.specs.Raising.{IsRaise};
 
     // it is raised by one, and the entry is the new number
-    ghost step = { λ old seat entry new. (new ≡ (old + 1) % 2 ^ 64) × (entry ≡ new) };
+    ghost step = { IsRaise };
 }
 
 /// Raises the number by one, and keeps the new one.
@@ -41,12 +42,10 @@ impl Job<u64> for Raise {
     }
 }
 
-// A thousand turns of a seat that made none yet.
+// Takes a thousand turns.
 fn raise_often<R: Wait>(rt: &R, shared: &Shared<u64>, mut seat: Seat<u64>) -> Seat<u64>
-    requires home { seat.home ≡ shared.now }
-    requires none { seat.mine ≡ (acting seat.mine, []) ∷ [] }
-    ensures home { (result.home ≡ seat.home) × (result.gave ≡ seat.gave) }
-    ensures made { (entries : List ℕ) × (result.mine ≡ (acting seat.mine, entries) ∷ []) × (length entries ≡ TURNS) }
+    requires { seat.home ≡ shared.now }
+    ensures { HasMore TURNS seat result }
 {
     for _ in 0..TURNS {
         let mut job = Raise { made: 0 };
@@ -58,7 +57,7 @@ fn raise_often<R: Wait>(rt: &R, shared: &Shared<u64>, mut seat: Seat<u64>) -> Se
 // Closes with the seat of number 0, into which the seat of the number that it gave was joined.
 fn counted(shared: Shared<u64>, seat: Seat<u64>) -> u64
     requires home { (seat.home ≡ shared) × (shared.opening ≡ Some 0) }
-    requires both { (given : ℕ) × (first second : List ℕ) × (given ≢ 0) × (seat.mine ≡ (0, first) ∷ (given, second) ∷ []) × (seat.gave ≡ given ∷ []) × (length first + length second ≡ 2000) }
+    requires both { IsPair TURNS TURNS seat }
     ensures count { length (seen seat) ≡ 2000 }
     ensures order { (i : ℕ) → i < 2000 → slice_index (map (λ e. e.1) (seen seat)) i ≡ i + 1 }
     ensures value { result ≡ 2000 }
@@ -76,12 +75,12 @@ pub fn raised_by_two<R: Threads + Wait + Sync>(rt: &R, alloc: Global) -> Result<
     let (mut seat, other) = thread::join(
         rt,
         move || -> Seat<u64>
-            requires { (seat.home ≡ lock.now) × (seat.mine ≡ (acting seat.mine, []) ∷ []) }
-            ensures { (result.home ≡ seat.home) × (result.gave ≡ seat.gave) × ((entries : List ℕ) × (result.mine ≡ (acting seat.mine, entries) ∷ []) × (length entries ≡ TURNS)) }
+            requires { seat.home ≡ lock.now }
+            ensures { HasMore TURNS seat result }
         { raise_often(rt, lock, seat) },
         move || -> Seat<u64>
-            requires { (other.home ≡ lock.now) × (other.mine ≡ (acting other.mine, []) ∷ []) }
-            ensures { (result.home ≡ other.home) × (result.gave ≡ other.gave) × ((entries : List ℕ) × (result.mine ≡ (acting other.mine, entries) ∷ []) × (length entries ≡ TURNS)) }
+            requires { other.home ≡ lock.now }
+            ensures { HasMore TURNS other result }
         { raise_often(rt, lock, other) },
     );
     shared.join(&mut seat, other);
@@ -89,40 +88,55 @@ pub fn raised_by_two<R: Threads + Wait + Sync>(rt: &R, alloc: Global) -> Result<
 }
 
 // Raises the number once, a little later.
-fn raise_late<R: Wait + Clock>(rt: &R, shared: &Shared<u64>, mut seat: Seat<u64>) -> u64
+fn raise_late<R: Wait + Clock>(
+    rt: &R,
+    shared: &Shared<u64>,
+    mut seat: Seat<u64>,
+) -> (Seat<u64>, u64)
     requires { seat.home ≡ shared.now }
+    ensures { HasRaised seat result.0 result.1 }
 {
     thread::sleep(rt, Duration::from_millis(50));
     let mut job = Raise { made: 0 };
     shared.turn(rt, &mut seat, &mut job);
-    job.made
+    (seat, job.made)
 }
 
-// Waits for another's turn, and then raises the number. The turns that it had not seen are others'.
-fn raise_next<R: Wait>(rt: &R, shared: &Shared<u64>, mut seat: Seat<u64>) -> u64
+// Waits for another's turn, and then raises the number.
+fn raise_next<R: Wait>(rt: &R, shared: &Shared<u64>, mut seat: Seat<u64>) -> (Seat<u64>, u64)
     requires { seat.home ≡ shared.now }
+    ensures { HasAwaited seat result.0 result.1 }
 {
     shared.wait_change(rt, &mut seat);
     let mut job = Raise { made: 0 };
     shared.turn(rt, &mut seat, &mut job);
-    job.made
+    (seat, job.made)
 }
 
 /// A thread waits until another has raised the number, and raises it too. Gives what each of the two made of it.
 pub fn woken<R: Threads + Wait + Clock + Sync>(
     rt: &R,
     alloc: Global,
-) -> Result<(u64, u64), NoMemory> {
+) -> Result<(u64, u64), NoMemory>
+    ensures { IfOk result (λ made. (made.0 ≡ 1) × (made.1 ≡ 2)) }
+{
     let (shared, mut seat) = Shared::new(alloc, 0u64)?;
     let other = shared.split(rt, &mut seat)?;
     let lock = &shared;
-    Ok(thread::join(
+    let (late, next) = thread::join(
         rt,
-        move || -> u64
+        move || -> (Seat<u64>, u64)
             requires { seat.home ≡ lock.now }
+            ensures { HasRaised seat result.0 result.1 }
         { raise_late(rt, lock, seat) },
-        move || -> u64
+        move || -> (Seat<u64>, u64)
             requires { other.home ≡ lock.now }
+            ensures { HasAwaited other result.0 result.1 }
         { raise_next(rt, lock, other) },
-    ))
+    );
+    let (mut seat, first) = late;
+    let (other, second) = next;
+    shared.join(&mut seat, other);
+    shared.close(seat);
+    Ok((first, second))
 }

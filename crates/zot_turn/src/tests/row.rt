@@ -1,6 +1,6 @@
 // A value that owns a seat of another shared value, and a job that takes a turn at that other in its own turn.
-ghost use Rattle.std.specs.Prelude.{◌≡◌, IsSomeAnd};
-ghost use Rattle.zot_turn.specs.Seats.{IsLater};
+ghost use Rattle.std.specs.Prelude.{◌≡◌, ◌≢◌, IfOk, IsSomeAnd};
+ghost use Rattle.zot_turn.specs.Raising.{HasMore, newcomer};
 
 use super::counter::Raise;
 use crate::{Job, NoMemory, Object, Seat, SeatAt, Shared};
@@ -18,10 +18,11 @@ pub struct Row {
 impl Object for Row {
     type Entry = u64;
 
-    ghost use Rattle.zot_turn.specs.Seats.{IsLater};
+    ghost use Rattle.std.specs.Prelude.{[], ◌∷◌};
+    ghost use Rattle.zot_turn.specs.Seats.{HasMade};
 
-    // the seat only sees and makes more
-    ghost step = { λ old by entry new. IsLater old.seat new.seat };
+    // the seat made the entry, and else only saw more
+    ghost step = { λ old by entry new. HasMade (entry ∷ []) old.seat new.seat };
 }
 
 /// Raises the number in a turn of the row's seat, and keeps the new one.
@@ -57,7 +58,7 @@ fn visit_once<R: Wait>(
 ) -> Seat<Row>
     requires home { visitor.home ≡ rows.now }
     requires inner { IsSomeAnd visitor.home.opening (λ row. row.seat.home ≡ numbers.now) }
-    ensures { IsLater visitor result }
+    ensures { HasMore 1 visitor result }
 {
     let mut visit = Visit {
         rt,
@@ -68,26 +69,42 @@ fn visit_once<R: Wait>(
     visitor
 }
 
-/// Two threads visit a shared row, which is then closed, and the number with the row's seat. Gives that seat's number too.
-pub fn visited<R: Threads + Wait + Sync>(rt: &R, alloc: Global) -> Result<(u64, u64), NoMemory> {
-    let (numbers, mut seat) = Shared::new(alloc, 0u64)?;
-    let inner = numbers.split(rt, &mut seat)?;
-    let (rows, mut visitor) = Shared::new(alloc, Row { seat: inner })?;
+// Two threads visit a shared row once each, and it is closed.
+fn visited_by_two<R: Threads + Wait + Sync>(
+    rt: &R,
+    rows: Shared<Row>,
+    mut visitor: Seat<Row>,
+    numbers: &Shared<u64>,
+) -> Result<Row, NoMemory>
+    requires first { visitor ≡ newcomer rows }
+    requires inner { IsSomeAnd rows.opening (λ row. row.seat.home ≡ numbers.now) }
+    ensures { IfOk result (λ row. IsSomeAnd rows.opening (λ opened. HasMore 2 opened.seat row.seat)) }
+{
     let other = rows.split(rt, &mut visitor)?;
-    let (all, below) = (&rows, &numbers);
+    let all = &rows;
     let (mut visitor, other) = thread::join(
         rt,
         move || -> Seat<Row>
-            requires { (visitor.home ≡ all.now) × IsSomeAnd visitor.home.opening (λ row. row.seat.home ≡ below.now) }
-            ensures { IsLater visitor result }
-        { visit_once(rt, all, below, visitor) },
+            requires { (visitor.home ≡ all.now) × IsSomeAnd visitor.home.opening (λ row. row.seat.home ≡ numbers.now) }
+            ensures { HasMore 1 visitor result }
+        { visit_once(rt, all, numbers, visitor) },
         move || -> Seat<Row>
-            requires { (other.home ≡ all.now) × IsSomeAnd other.home.opening (λ row. row.seat.home ≡ below.now) }
-            ensures { IsLater other result }
-        { visit_once(rt, all, below, other) },
+            requires { (other.home ≡ all.now) × IsSomeAnd other.home.opening (λ row. row.seat.home ≡ numbers.now) }
+            ensures { HasMore 1 other result }
+        { visit_once(rt, all, numbers, other) },
     );
     rows.join(&mut visitor, other);
-    let Row { seat: inner } = rows.close(visitor);
+    Ok(rows.close(visitor))
+}
+
+/// Two threads visit a shared row, which is then closed, and the number with the row's seat. Gives that seat's number and what was counted.
+pub fn visited<R: Threads + Wait + Sync>(rt: &R, alloc: Global) -> Result<(u64, u64), NoMemory>
+    ensures { IfOk result (λ r. (r.0 ≢ 0) × (r.1 ≡ 2)) }
+{
+    let (numbers, mut seat) = Shared::new(alloc, 0u64)?;
+    let inner = numbers.split(rt, &mut seat)?;
+    let (rows, visitor) = Shared::new(alloc, Row { seat: inner })?;
+    let Row { seat: inner } = visited_by_two(rt, rows, visitor, &numbers)?;
     let by = inner.number();
     numbers.join(&mut seat, inner);
     Ok((by, numbers.close(seat)))

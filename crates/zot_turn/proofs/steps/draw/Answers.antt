@@ -2,6 +2,7 @@ use Rattle.std.proofs.Common.{Option, arith, sym, ◌∙◌, subst}
 use Rattle.atomic_table.specs.Table.{Me}
 use Rattle.zot_turn.specs.declared.known.Known.{Known}
 use Rattle.zot_turn.specs.Steps.{Drawn, HasNumber}
+use Rattle.zot_turn.proofs.Changes.{same_still}
 use Rattle.zot_turn.proofs.Drawing.{draws_number, drew, not_drawn}
 use Rattle.zot_turn.proofs.steps.draw.Goals as goal
 
@@ -25,4 +26,4 @@ loop-preserved-else-found-count g c =
     let e = c.compare_exchange-found.ensures in
     let acts = subst (λ (m : Me (Option g.row.O.Denot) (Known g.row.O.Denot g.row.O-Entry.Denot)). HasNumber m.0.mine) (sym i.2) c.requires.acts in
     let same = not_drawn g.O.Object.step c.args.board.now.key.value c.peek-count.result c.loop.seat.id c.args.board.now.table_id.slots c.loop.seat.me acts c.compare_exchange-found.result c.compare_exchange-found.new.seat.me c.if-found-count.false e.2 in
-    (e.0 ∙ i.0, e.1 ∙ i.1, same ∙ i.2)
+    (e.0 ∙ i.0, e.1 ∙ i.1, same_still _ _ _ same i.2)

@@ -2,6 +2,7 @@ use Rattle.std.proofs.Common.{Option, arith, refl, sym, ◌∙◌, subst}
 use Rattle.atomic_table.specs.Table.{Me}
 use Rattle.zot_turn.specs.declared.known.Known.{Known}
 use Rattle.zot_turn.specs.Steps.{Takes, HasNumber}
+use Rattle.zot_turn.proofs.Changes.{same_still}
 use Rattle.zot_turn.proofs.Taking.{takes_turn, took, not_taken}
 use Rattle.zot_turn.proofs.steps.take.Goals as goal
 
@@ -9,7 +10,7 @@ pub compare_exchange-found-requires : goal.compare_exchange-found-requires
 compare_exchange-found-requires g c =
     let i = c.loop.invariant in
     let acts = subst (λ (m : Me (Option g.row.O.Denot) (Known g.row.O.Denot g.row.O-Entry.Denot)). HasNumber m.0.mine) (sym i.2) c.requires.acts in
-    (i.0 ∙ c.requires.board.0, omega (arith, c.requires.board.1), takes_turn g.O.Object.step c.args.board.now.key.value c.peek-word.result c.loop.seat.id c.args.board.now.table_id.slots c.loop.seat.me acts (c.if-is_free.ensures refl).0)
+    (i.0 ∙ c.requires.board.0, omega (arith, c.requires.board.1), takes_turn g.O.Object.step c.args.board.now.key.value c.peek-word.result c.loop.seat.id c.args.board.now.table_id.slots c.loop.seat.me acts (c.if-is_free.ensures.0 refl).0)
 
 pub returns-then-found-word-clause-taken : goal.returns-then-found-word-clause-taken
 returns-then-found-word-clause-taken g c =
@@ -17,12 +18,12 @@ returns-then-found-word-clause-taken g c =
     let acts = subst (λ (m : Me (Option g.row.O.Denot) (Known g.row.O.Denot g.row.O-Entry.Denot)). HasNumber m.0.mine) (sym i.2) c.requires.acts in
     let now = c.compare_exchange-found.new.seat.me in
     subst (λ (m : Me (Option g.row.O.Denot) (Known g.row.O.Denot g.row.O-Entry.Denot)). Takes g.O.Object.step c.peek-word.result m now) i.2
-    (took g.O.Object.step c.args.board.now.key.value c.peek-word.result c.loop.seat.id c.args.board.now.table_id.slots c.loop.seat.me acts (c.if-is_free.ensures refl).0 c.compare_exchange-found.result now c.if-found-word.true c.compare_exchange-found.ensures.2)
+    (took g.O.Object.step c.args.board.now.key.value c.peek-word.result c.loop.seat.id c.args.board.now.table_id.slots c.loop.seat.me acts (c.if-is_free.ensures.0 refl).0 c.compare_exchange-found.result now c.if-found-word.true c.compare_exchange-found.ensures.2)
 
 pub loop-preserved-else-found-word : goal.loop-preserved-else-found-word
 loop-preserved-else-found-word g c =
     let i = c.loop.invariant in
     let e = c.compare_exchange-found.ensures in
     let acts = subst (λ (m : Me (Option g.row.O.Denot) (Known g.row.O.Denot g.row.O-Entry.Denot)). HasNumber m.0.mine) (sym i.2) c.requires.acts in
-    let same = not_taken g.O.Object.step c.args.board.now.key.value c.peek-word.result c.loop.seat.id c.args.board.now.table_id.slots c.loop.seat.me acts (c.if-is_free.ensures refl).0 c.compare_exchange-found.result c.compare_exchange-found.new.seat.me c.if-found-word.false e.2 in
-    (e.0 ∙ i.0, e.1 ∙ i.1, same ∙ i.2)
+    let same = not_taken g.O.Object.step c.args.board.now.key.value c.peek-word.result c.loop.seat.id c.args.board.now.table_id.slots c.loop.seat.me acts (c.if-is_free.ensures.0 refl).0 c.compare_exchange-found.result c.compare_exchange-found.new.seat.me c.if-found-word.false e.2 in
+    (e.0 ∙ i.0, e.1 ∙ i.1, same_still _ _ _ same i.2)

@@ -1,8 +1,8 @@
-use Rattle.std.proofs.Common.{◌≡◌, Option, Contains, Some, sym, ap, ◌∙◌, subst}
+use Rattle.std.proofs.Common.{◌≡◌, ◌≤◌, Option, Contains, Some, length, sym, ap, ◌∙◌, subst}
 use Rattle.std.specs.List.{AllByRecursion}
 use mathlib.Core.Option.{some}
-use Rattle.zot_turn.specs.Seats.{Home, Standing, HasAll, HasOwn, Stands, numbers, seen}
-use Rattle.zot_turn.proofs.Calling.{ends, never_empty, value_stands}
+use Rattle.zot_turn.specs.Seats.{Standing, HasAll, HasOwn, Stands, numbers, seen}
+use Rattle.zot_turn.proofs.Calling.{opened, ends, never_empty, value_stands}
 use Rattle.zot_turn.proofs.shared.Shared.close.Goals as goal
 
 pub unreachable-requires : goal.unreachable-requires
@@ -22,7 +22,7 @@ returns-clause-stands g c =
     let inner = c.seat.inside.inner in
     let slots = c.close_with-closed.result.slots.items in
     let e = ends step origin inner.table_id c.seat.inside.number c.seat.inside.turns inner.me c.seat.invariant inner.id _ slots c.close_with-closed.ensures.values.2 (subst HasAll (sym c.seat.view_is) c.requires.all) in
-    let opening : inner.me.0.opening ≡ Some origin = ap (λ (s : Standing g.row.O.Denot g.row.O-Entry.Denot). s.home.opening) c.seat.view_is ∙ ap (λ (h : Home g.row.O.Denot). h.opening) c.requires.seat ∙ sym (ap (λ (h : Home g.row.O.Denot). h.opening) c.self.view_is) in
+    let opening : inner.me.0.opening ≡ Some origin = opened _ _ _ c.seat.inside.inner.me.0 _ _ c.seat.view_is c.requires.seat c.self.view_is in
     subst (λ (s : Standing g.row.O.Denot g.row.O-Entry.Denot). Stands step s.home (seen s) c.in-Some.value) c.seat.view_is
     (value_stands step origin inner.table_id c.seat.inside.number c.seat.inside.turns inner.me c.seat.invariant slots e c.in-Some.value c.in-Some.ensures.value opening)
 
@@ -37,3 +37,9 @@ returns-clause-own g c =
     let inner = c.seat.inside.inner in
     let e = ends g.O.Object.step c.self.inside.table.shared.key.value inner.table_id c.seat.inside.number c.seat.inside.turns inner.me c.seat.invariant inner.id _ c.close_with-closed.result.slots.items c.close_with-closed.ensures.values.2 (subst HasAll (sym c.seat.view_is) c.requires.all) in
     subst (λ (s : Standing g.row.O.Denot g.row.O-Entry.Denot). HasOwn s.mine (seen s)) c.seat.view_is e.own
+
+pub returns-clause-shown : goal.returns-clause-shown
+returns-clause-shown g c =
+    let inner = c.seat.inside.inner in
+    let e = ends g.O.Object.step c.self.inside.table.shared.key.value inner.table_id c.seat.inside.number c.seat.inside.turns inner.me c.seat.invariant inner.id _ c.close_with-closed.result.slots.items c.close_with-closed.ensures.values.2 (subst HasAll (sym c.seat.view_is) c.requires.all) in
+    subst (λ (s : Standing g.row.O.Denot g.row.O-Entry.Denot). s.shown ≤ length s.turns) c.seat.view_is e.shown

@@ -1,7 +1,7 @@
-use Rattle.std.proofs.Common.{arith, sym, ap, ◌∙◌, subst}
-use Rattle.zot_turn.specs.Seats.{Home, Standing, Parted}
+use Rattle.std.proofs.Common.{arith, ◌∙◌, subst}
+use Rattle.zot_turn.specs.Seats.{Standing, Parted}
 use Rattle.zot_turn.specs.Views.{standing_of}
-use Rattle.zot_turn.proofs.Calling.{has_number, parted}
+use Rattle.zot_turn.proofs.Calling.{placed, has_number, parted}
 use Rattle.zot_turn.proofs.Parting.{parts_seat}
 use Rattle.zot_turn.proofs.shared.Shared.split.Goals as goal
 
@@ -10,7 +10,7 @@ draw-number-requires-clause-acts g c = has_number c.seat.inside.number c.seat.in
 
 pub split_seat-inner-requires : goal.split_seat-inner-requires
 split_seat-inner-requires g c =
-    let place = ap (λ (s : Standing g.row.O.Denot g.row.O-Entry.Denot). s.home.table) c.seat.view_is ∙ ap (λ (h : Home g.row.O.Denot). h.table) c.requires ∙ sym (ap (λ (h : Home g.row.O.Denot). h.table) c.self.view_is) in
+    let place = placed _ _ _ c.seat.inside.inner.me.0 _ _ c.seat.view_is c.requires c.self.view_is in
     (c.draw-number.ensures.seat.0 ∙ place, omega (arith, c.self.invariant.0), parts_seat g.O.Object.step c.self.inside.table.shared.key.value c.draw-number.new.seat.id c.draw-number.new.seat.me.0)
 
 pub returns-clause-parted : goal.returns-clause-parted
