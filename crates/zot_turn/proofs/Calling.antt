@@ -34,6 +34,10 @@ module _ {O E : Type 0} (place table : TableId) (key : O) (v : Known O E) (seat 
   pub placed : place ≡ table
   placed = ap (λ (s : Standing O E). s.home.table) seat_is ∙ ap (λ (h : Home O). h.table) at_home ∙ sym (ap (λ (h : Home O). h.table) home_is)
 
+-- the four steps of a turn are steps on one table
+pub same_table : (was taken lifted laid given : TableId) → taken ≡ was → lifted ≡ taken → laid ≡ lifted → given ≡ laid → given ≡ was
+same_table was taken lifted laid given a b c d = d ∙ c ∙ b ∙ a
+
 module _ {O E : Type 0} where
   pub has_number : (number turns : ℕ) (me : Me (Option O) (Known O E)) → IsAtRest number turns me → HasNumber me.0.mine
   has_number number turns me r = subst (λ (ms : List (ℕ × List E)). HasNumber ms) (sym r.mine) (number, times_first number number (numbers r.others) refl)

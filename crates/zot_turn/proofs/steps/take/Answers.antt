@@ -1,5 +1,6 @@
-use Rattle.std.proofs.Common.{Option, arith, refl, sym, ◌∙◌, subst}
+use Rattle.std.proofs.Common.{ℕ, Option, arith, refl, sym, ◌∙◌, subst}
 use Rattle.atomic_table.specs.Table.{Me}
+use Rattle.atomic_table.specs.Seated.{TableId}
 use Rattle.zot_turn.specs.declared.known.Known.{Known}
 use Rattle.zot_turn.specs.Steps.{Takes, HasNumber}
 use Rattle.zot_turn.proofs.Changes.{same_still}
@@ -26,4 +27,4 @@ loop-preserved-else-found-word g c =
     let e = c.compare_exchange-found.ensures in
     let acts = subst (λ (m : Me (Option g.row.O.Denot) (Known g.row.O.Denot g.row.O-Entry.Denot)). HasNumber m.0.mine) (sym i.2) c.requires.acts in
     let same = not_taken g.O.Object.step c.args.board.now.key.value c.peek-word.result c.loop.seat.id c.args.board.now.table_id.slots c.loop.seat.me acts (c.if-is_free.ensures.0 refl).0 c.compare_exchange-found.result c.compare_exchange-found.new.seat.me c.if-found-word.false e.2 in
-    (e.0 ∙ i.0, e.1 ∙ i.1, same_still _ _ _ same i.2)
+    (◌∙◌ {A = TableId} e.0 i.0, ◌∙◌ {A = ℕ} e.1 i.1, same_still _ _ _ same i.2)

@@ -1,7 +1,7 @@
-use Rattle.std.proofs.Common.{◌≡◌, ℕ, Some, sym, ◌∙◌, subst}
+use Rattle.std.proofs.Common.{◌≡◌, ℕ, Some, sym, subst}
 use Rattle.zot_turn.specs.Seats.{Standing, IsOwed, Turned, acting}
 use Rattle.zot_turn.specs.Views.{standing_of}
-use Rattle.zot_turn.proofs.Calling.{opened, has_number, acting_is, needed, may_give, rests_again, turned, later_turned}
+use Rattle.zot_turn.proofs.Calling.{opened, same_table, has_number, acting_is, needed, may_give, rests_again, turned, later_turned}
 use Rattle.zot_turn.proofs.shared.Shared.turn.Goals as goal
 
 pub take-found-requires-clause-acts : goal.take-found-requires-clause-acts
@@ -35,7 +35,7 @@ pub returns-clause-turned : goal.returns-clause-turned
 returns-clause-turned g c =
     let me = c.seat.inside.inner.me in
     let number : ℕ = c.seat.inside.number in
-    let place = c.give.ensures.seat.0 ∙ c.lay.ensures.seat.0 ∙ c.lift-value.ensures.seat.0 ∙ c.take-found.ensures.seat.0 in
+    let place = same_table c.seat.inside.inner.table_id c.take-found.new.seat.table_id c.lift-value.new.seat.table_id c.lay.new.seat.table_id c.give.new.seat.table_id c.take-found.ensures.seat.0 c.lift-value.ensures.seat.0 c.lay.ensures.seat.0 c.give.ensures.seat.0 in
     let opening : me.0.opening ≡ Some c.self.inside.table.shared.key.value = opened _ _ _ c.seat.inside.inner.me.0 _ _ c.seat.view_is c.requires.seat c.self.view_is in
     let run = subst (λ (n : ℕ). g.J.Job.does c.args.job.now n c.lift-value.result c.run.new.value c.run.new.self) (sym (acting_is number c.seat.inside.turns me c.seat.invariant)) c.run.ensures.done in
     subst (λ (s : Standing g.row.O.Denot g.row.O-Entry.Denot). Turned g.O.Object.step (g.J.Job.entries c.run.new.self) (λ v w. g.J.Job.does c.args.job.now (acting s.mine) v w c.run.new.self) s (standing_of c.give.new.seat.table_id c.give.new.seat.me.0)) c.seat.view_is
