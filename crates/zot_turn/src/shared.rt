@@ -36,7 +36,7 @@ impl<O: Object> Model for Shared<O> {
 }
 
 impl<O: Object + Drop> Shared<O> {
-    /// Shares a value, and gives its first seat, whose number is 0. Where there is no memory for the table, the value is dropped.
+    /// Shares a value, and gives its first seat, whose number is 0. Where there is no memory for the table it answers `NoMemory`, and the value is dropped.
     pub fn new(alloc: Global, value: O) -> Result<(Shared<O>, Seat<O>), NoMemory>
         ensures opening { IfOk result (λ r. r.0.opening ≡ Some value) }
         ensures seat { IfOk result (λ r. r.1 ≡ record { home = r.0; turns = []; mine = (0, []) ∷ []; gave = []; shown = 0 }) }
@@ -57,7 +57,7 @@ impl<O: Object + Drop> Shared<O> {
 }
 
 impl<O: Object> Shared<O> {
-    /// Waits for the value, runs the job on it once and puts it back. It takes no memory of its own.
+    /// Waits for the value, runs the job on it once and puts it back. It takes no memory of its own. Where no further turn can be counted it waits for ever.
     pub fn turn<J: Job<O>>(&self, rt: &impl Wait, seat: &mut Seat<O>, job: &mut J)
         requires seat { seat.old.home ≡ self.now }
         requires needs { IsOwed O.step seat.old (λ v. J.needs job.old (acting seat.old.mine) v) }
