@@ -98,20 +98,10 @@ trailer-more before after left b bytes e =
     let same : leb (suc left) (suc (length bytes)) ≡ leb left (length bytes) = grind (arith, nat_tests) in
     rw (e, same) (shift (after (take left bytes)) (leb left (length bytes)) b bytes)
 
--- behind the empty line
-pub trailer-ends : (before : List ℕ → Option ℕ) (left b : ℕ) (bytes : List ℕ) → before (b ∷ take left bytes) ≡ Some 1
-    → from_trailer (extent before (suc left) (b ∷ bytes)) (b ∷ bytes) ≡ Whole [] bytes
-trailer-ends before left b bytes e = rw e refl
-
 trailer_end-nil : (so_far : LineSoFar) → trailer_end so_far [] ≡ None
 trailer_end-nil Start = refl
 trailer_end-nil Return = refl
 trailer_end-nil Inside = refl
-
-pub trailer-passes : (so_far : LineSoFar) (bytes : List ℕ) → from_trailer (extent (trailer_end so_far) 0 bytes) bytes ≡ Broken [] TooLong
-trailer-passes so_far bytes =
-    let come : leb 0 (length bytes) ≡ true = grind (arith, nat_tests) in
-    rw (trailer_end-nil so_far, come) refl
 
 trailer-goes : (so_far : LineSoFar) (left : ℕ) → 0 < left → from_trailer (extent (trailer_end so_far) left []) [] ≡ Unfinished []
 trailer-goes so_far zero lt = absurd (omega arith)
@@ -221,13 +211,6 @@ bytes-owed old size piece is some come more = rw is (bytes-seen (chunked old.roo
 
 -- ---- one advance after another
 
-pub advances-then : (a b c : Progress) (bytes rest last x y z : List ℕ) → Advances a bytes b rest x y → Advances b rest c last y z → Advances a bytes c last x z
-advances-then a b c bytes rest last x y z one two = record {
-  given = one.given ++ two.given;
-  out = two.out ∙ ap (λ (w : List ℕ). w ++ two.given) one.out ∙ append_assoc x one.given two.given;
-  same = λ more. one.same more ∙ ap (behind one.given) (two.same more) ∙ sym (behind-append one.given two.given (reading c (last ++ more)));
-}
-
 pub advances-piece : (a b c : Progress) (bytes piece last x y z : List ℕ) → Advances a bytes b [] x y → Advances b piece c last y z → Advances a (bytes ++ piece) c last x z
 advances-piece a b c bytes piece last x y z one two = record {
   given = one.given ++ two.given;
@@ -235,19 +218,6 @@ advances-piece a b c bytes piece last x y z one two = record {
   same = λ more.
       ap (reading a) (append_assoc bytes piece more) ∙ one.same (piece ++ more) ∙ ap (behind one.given) (two.same more)
       ∙ sym (behind-append one.given two.given (reading c (last ++ more)));
-}
-
-pub advances-none : (a : Progress) (bytes x : List ℕ) → Advances a bytes a bytes x x
-advances-none a bytes x = record { given = []; out = sym (append-nil x); same = λ more. sym (behind-nil (reading a (bytes ++ more))) }
-
--- one byte
-pub advances-byte : (old new : Progress) (piece x y : List ℕ) (byte : ℕ) → 0 < length piece → byte ≡ get_or piece 0 0
-    → ((more : List ℕ) → reading old (byte ∷ more) ≡ reading new more) → y ≡ x → Advances old piece new (drop 1 piece) x y
-advances-byte old new [] x y byte some is same out = absurd (omega arith)
-advances-byte old new (b ∷ piece) x y byte some is same out = record {
-  given = [];
-  out = out ∙ sym (append-nil x);
-  same = λ more. ap (λ (c : ℕ). reading old (c ∷ (piece ++ more))) (sym is) ∙ same (piece ++ more) ∙ sym (behind-nil (reading new (piece ++ more)));
 }
 
 -- ---- what a call answers
