@@ -93,13 +93,16 @@ failed-then old mid new bytes piece others fed error x y z is e err =
         → AnswersErr (reading old (((bytes ++ piece) ++ others) ++ more)) error x z ⊎ ((error ≡ NoMemory) × Stops (reading old (((bytes ++ piece) ++ others) ++ more)) x z)
     told more on (inl shown) = inl (rw (regroup old mid bytes piece others more x y on) (err_behind (reading mid (piece ++ (others ++ more))) on.given error x y z shown on.out))
     told more on (inr (want, stop)) =
-        inr (want, record {
-          given = on.given ++ stop.given;
-          out = stop.out ∙ ap (λ (w : List ℕ). w ++ stop.given) on.out ∙ append_assoc x on.given stop.given;
-          next = stop.next;
-          front = regroup old mid bytes piece others more x y on ∙ ap (behind on.given) stop.front ∙ sym (behind-append on.given stop.given stop.next);
-          owes = stop.owes;
-        })
+        inr (
+          want,
+          record {
+            given = on.given ++ stop.given;
+            out = stop.out ∙ ap (λ (w : List ℕ). w ++ stop.given) on.out ∙ append_assoc x on.given stop.given;
+            next = stop.next;
+            front = regroup old mid bytes piece others more x y on ∙ ap (behind on.given) stop.front ∙ sym (behind-append on.given stop.given stop.next);
+            owes = stop.owes;
+          },
+        )
 
 -- ---- the pieces, joined
 

@@ -150,7 +150,7 @@ texts_at bytes spans r h within at =
 -- ---- all of the bytes
 
 -- a request that takes all bytes is read over them
-whole_request : (bytes : List ℕ) (spans : List HeaderSpan) (r : RequestSpans) (h : RequestHead) → length bytes ≤ r.len → IsRequestAt bytes spans r h → ReadsRequest bytes h []
+pub whole_request : (bytes : List ℕ) (spans : List HeaderSpan) (r : RequestSpans) (h : RequestHead) → length bytes ≤ r.len → IsRequestAt bytes spans r h → ReadsRequest bytes h []
 whole_request bytes spans r h le at = subst (λ (rest : List ℕ). ReadsRequest bytes h rest) (drop_all r.len bytes le) at.reads
 
 pub is_head : (bytes : List ℕ) (spans : List HeaderSpan) (r : RequestSpans) (h : RequestHead) (head : Head) → ¬ (IsCrowded bytes) → length bytes ≤ r.len → IsRequestAt bytes spans r h → HasParts h head → IsHead bytes head
