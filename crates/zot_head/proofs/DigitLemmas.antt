@@ -17,9 +17,6 @@ use Rattle.zot_head.specs.Chunked.{ends_size, hex_digits, size_of}
 hex_digit_value : (b : ℕ) → is_ascii_hexdigit b ≡ true → digit_value b < 16
 hex_digit_value b e = grind (arith, nat_tests)
 
-digit_digit_value : (b : ℕ) → is_ascii_digit b ≡ true → digit_value b < 10
-digit_digit_value b e = grind (arith, nat_tests)
-
 -- one more digit stays below the next power
 pub digit_more : (radix value digit at : ℕ) → value < radix ^ at → digit < radix → value * radix + digit < radix ^ (at + 1)
 digit_more radix value digit at below small =

@@ -67,10 +67,6 @@ and_true : (a b : Bool) → (a && b) ≡ true → (a ≡ true) × (b ≡ true)
 and_true true b e = (refl, e)
 and_true false b e = absurd cc
 
-and_false : (a b : Bool) → (a && b) ≡ false → (a ≡ false) ⊎ (b ≡ false)
-and_false true b e = inr e
-and_false false b e = inl refl
-
 -- a CR in front, and what is behind it
 section_end_return : (a b : List ℕ) (n : ℕ) (t : Bool) → (t && begins_feed a) ≡ false → option_map suc (section_end false a) ≡ Some n
     → cond (t && begins_feed (a ++ b)) (Some 2) (option_map suc (section_end false (a ++ b))) ≡ option_map suc (section_end false (a ++ b))

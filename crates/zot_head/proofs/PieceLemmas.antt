@@ -1,22 +1,16 @@
 -- Several pieces of a body in chunks, read one behind another.
-use Rattle.std.proofs.Common.{◌≡◌, ℕ, ◌+◌, ◌<◌, ◌≤◌, Bool, true, false, not, List, [], ◌∷◌, ◌++◌, length, take, drop, get_or, refl, sym, ap, subst, ◌∙◌, arith, append_assoc, Err}
+use Rattle.std.proofs.Common.{◌≡◌, ◌⊎◌, ℕ, ◌+◌, ◌<◌, ◌≤◌, Bool, true, false, not, List, [], ◌∷◌, ◌++◌, length, take, drop, get_or, refl, sym, ap, subst, ◌∙◌, arith, append_assoc, inl, inr, Ok, Err}
 use Rattle.std.specs.Prelude.{IsTrue}
 use Rattle.std.specs.List.{flat_map}
 use Rattle.std.proofs.lemmas.List.{length-append, append-nil, drop_all, drop-append-le, take_more, take-append-drop}
 use Rattle.std.proofs.lemmas.Grind.{flat_map-append}
 use Rattle.std.proofs.Math.Seq.{drop-append-add}
 use Rattle.zot_head.specs.declared.chunk_error.ChunkError.{ChunkError}
-use Rattle.zot_head.specs.declared.chunk_error.ChunkError.TheVariants.{Bad, TooLong, TooLarge, NoMemory}
+use Rattle.zot_head.specs.declared.chunk_error.ChunkError.TheVariants.{NoMemory}
 use Rattle.zot_head.specs.declared.fed.Fed.{Fed}
 use Rattle.zot_head.specs.Chunked.{Body, Whole, Unfinished, Broken, behind}
-use Rattle.zot_head.specs.Progress.{Progress, reading, Advances, AnswersOk, AnswersErr, Answers}
+use Rattle.zot_head.specs.Progress.{Progress, reading, Advances, Stops, AnswersOk, AnswersErr, Feeds}
 use Rattle.zot_head.proofs.ProgressLemmas.{behind-append, advances-piece}
-
--- these bytes were fed, and that was answered
-pub record IsFed (old new : Progress) (bytes : List ℕ) (fed : Fed) (before after : List ℕ) : Type 0 where
-  pub ok : AnswersOk (reading old bytes) bytes fed before after
-  pub on : Advances old bytes new (drop fed.taken bytes) before after
-  pub finished : IsTrue fed.done → (rest : List ℕ) → reading new rest ≡ Whole [] rest
 
 -- nothing stays where the body isn't done
 all_taken : (body : Body) (bytes : List ℕ) (fed : Fed) (x y : List ℕ) → AnswersOk body bytes fed x y → fed.done ≡ false → fed.taken ≡ length bytes
@@ -24,34 +18,30 @@ all_taken (Whole given rest) bytes fed x y ok e = absurd cc
 all_taken (Unfinished given) bytes fed x y ok e = ok.1
 all_taken (Broken given error) bytes fed x y ok e = absurd ok
 
-none_left : (old new : Progress) (bytes : List ℕ) (fed : Fed) (x y : List ℕ) → IsFed old new bytes fed x y → fed.done ≡ false → drop fed.taken bytes ≡ []
-none_left old new bytes fed x y is e = drop_all fed.taken bytes (omega (arith, all_taken (reading old bytes) bytes fed x y is.ok e))
+none_left : (old new : Progress) (bytes : List ℕ) (fed : Fed) (x y : List ℕ) → Feeds old bytes (Ok fed) new x y → fed.done ≡ false → drop fed.taken bytes ≡ []
+none_left old new bytes fed x y is e = drop_all fed.taken bytes (omega (arith, all_taken (reading old bytes) bytes fed x y is.answers e))
 
-goes_to : (old new : Progress) (bytes : List ℕ) (fed : Fed) (x y : List ℕ) → IsFed old new bytes fed x y → fed.done ≡ false → Advances old bytes new [] x y
-goes_to old new bytes fed x y is e = subst (λ (r : List ℕ). Advances old bytes new r x y) (none_left old new bytes fed x y is e) is.on
+goes_to : (old new : Progress) (bytes : List ℕ) (fed : Fed) (x y : List ℕ) → Feeds old bytes (Ok fed) new x y → fed.done ≡ false → Advances old bytes new [] x y
+goes_to old new bytes fed x y is e = subst (λ (r : List ℕ). Advances old bytes new r x y) (none_left old new bytes fed x y is e) is.goes_on
 
 -- more bytes behind a body that is done
-pub fed-behind : (old new : Progress) (bytes piece : List ℕ) (fed : Fed) (x y : List ℕ) → IsFed old new bytes fed x y → fed.done ≡ true → IsFed old new (bytes ++ piece) fed x y
+pub fed-behind : (old new : Progress) (bytes piece : List ℕ) (fed : Fed) (x y : List ℕ) → Feeds old bytes (Ok fed) new x y → fed.done ≡ true → Feeds old (bytes ++ piece) (Ok fed) new x y
 fed-behind old new bytes piece fed x y is e =
-    let within : fed.taken ≤ length bytes = within_of (reading old bytes) is.ok in
-    let cut : drop fed.taken (bytes ++ piece) ≡ drop fed.taken bytes ++ piece = drop-append-le fed.taken bytes piece within in
-    let says : reading old (bytes ++ piece) ≡ Whole (is.on.given ++ []) (drop fed.taken bytes ++ piece) =
-    is.on.same piece ∙ ap (behind is.on.given) (is.finished e (drop fed.taken bytes ++ piece)) in
+    let cut : drop fed.taken (bytes ++ piece) ≡ drop fed.taken bytes ++ piece = drop-append-le fed.taken bytes piece is.within in
+    let says : reading old (bytes ++ piece) ≡ Whole (is.goes_on.given ++ []) (drop fed.taken bytes ++ piece) =
+    is.goes_on.same piece ∙ ap (behind is.goes_on.given) (is.finished e (drop fed.taken bytes ++ piece)) in
     record {
-      ok = rw says (e, omega (arith, within, length-append bytes piece), sym cut, is.on.out ∙ ap (λ (g : List ℕ). x ++ g) (sym (append-nil is.on.given)));
-      on = record {
-        given = is.on.given;
-        out = is.on.out;
-        same = λ more. rw cut (ap (reading old) (append_assoc bytes piece more) ∙ is.on.same (piece ++ more)
-            ∙ ap (λ (r : List ℕ). behind is.on.given (reading new r)) (sym (append_assoc (drop fed.taken bytes) piece more)));
+      answers = rw says (e, omega (arith, is.within, length-append bytes piece), sym cut, is.goes_on.out ∙ ap (λ (g : List ℕ). x ++ g) (sym (append-nil is.goes_on.given)));
+      within = omega (arith, is.within, length-append bytes piece);
+      goes_on = record {
+        given = is.goes_on.given;
+        out = is.goes_on.out;
+        same = λ more. rw cut (ap (reading old) (append_assoc bytes piece more) ∙ is.goes_on.same (piece ++ more)
+            ∙ ap (λ (r : List ℕ). behind is.goes_on.given (reading new r)) (sym (append_assoc (drop fed.taken bytes) piece more)));
       };
       finished = is.finished;
+      failed = tt;
     }
-  where
-    within_of : (body : Body) → AnswersOk body bytes fed x y → fed.taken ≤ length bytes
-    within_of (Whole given rest) ok = ok.1
-    within_of (Unfinished given) ok = omega (arith, ok.1)
-    within_of (Broken given error) ok = absurd ok
 
 -- both answers together
 abbrev pub both : Fed → Fed → Fed
@@ -67,16 +57,18 @@ ok_behind (Unfinished more) given bytes piece fed next x y z ok all out =
 ok_behind (Broken more error) given bytes piece fed next x y z ok all out = absurd ok
 
 -- one piece more
-pub fed-then : (old mid new : Progress) (bytes piece : List ℕ) (fed next : Fed) (x y z : List ℕ) → IsFed old mid bytes fed x y → fed.done ≡ false → IsFed mid new piece next y z
-    → IsFed old new (bytes ++ piece) (both fed next) x z
+pub fed-then : (old mid new : Progress) (bytes piece : List ℕ) (fed next : Fed) (x y z : List ℕ) → Feeds old bytes (Ok fed) mid x y → fed.done ≡ false → Feeds mid piece (Ok next) new y z
+    → Feeds old (bytes ++ piece) (Ok (both fed next)) new x z
 fed-then old mid new bytes piece fed next x y z is e then =
-    let all : fed.taken ≡ length bytes = all_taken (reading old bytes) bytes fed x y is.ok e in
+    let all : fed.taken ≡ length bytes = all_taken (reading old bytes) bytes fed x y is.answers e in
     let on = goes_to old mid bytes fed x y is e in
     let cut : drop (fed.taken + next.taken) (bytes ++ piece) ≡ drop next.taken piece = ap (λ (n : ℕ). drop (n + next.taken) (bytes ++ piece)) all ∙ drop-append-add bytes piece next.taken in
     record {
-      ok = rw (on.same piece) (ok_behind (reading mid piece) on.given bytes piece fed next x y z then.ok all on.out);
-      on = rw cut (advances-piece old mid new bytes piece (drop next.taken piece) x y z on then.on);
+      answers = rw (on.same piece) (ok_behind (reading mid piece) on.given bytes piece fed next x y z then.answers all on.out);
+      within = omega (arith, all, then.within, length-append bytes piece);
+      goes_on = rw cut (advances-piece old mid new bytes piece (drop next.taken piece) x y z on then.goes_on);
       finished = then.finished;
+      failed = tt;
     }
 
 err_behind : (body : Body) (given : List ℕ) (error : ChunkError) (x y z : List ℕ) → AnswersErr body error y z → y ≡ x ++ given → AnswersErr (behind given body) error x z
@@ -91,27 +83,26 @@ regroup old mid bytes piece others more x y on =
     ap (reading old) (append_assoc (bytes ++ piece) others more ∙ append_assoc bytes piece (others ++ more)) ∙ on.same (piece ++ (others ++ more))
 
 -- an error of one piece more is that of all
-pub failed-then : (old mid : Progress) (bytes piece others : List ℕ) (fed : Fed) (error : ChunkError) (x y z : List ℕ) → IsFed old mid bytes fed x y → fed.done ≡ false
-    → Answers mid piece (Err error) y z → Answers old ((bytes ++ piece) ++ others) (Err error) x z
-failed-then old mid bytes piece others fed Bad x y z is e err =
-    let on = goes_to old mid bytes fed x y is e in
-    λ more. rw (regroup old mid bytes piece others more x y on) (err_behind (reading mid (piece ++ (others ++ more))) on.given Bad x y z (err (others ++ more)) on.out)
-failed-then old mid bytes piece others fed TooLong x y z is e err =
-    let on = goes_to old mid bytes fed x y is e in
-    λ more. rw (regroup old mid bytes piece others more x y on) (err_behind (reading mid (piece ++ (others ++ more))) on.given TooLong x y z (err (others ++ more)) on.out)
-failed-then old mid bytes piece others fed TooLarge x y z is e err =
-    let on = goes_to old mid bytes fed x y is e in
-    λ more. rw (regroup old mid bytes piece others more x y on) (err_behind (reading mid (piece ++ (others ++ more))) on.given TooLarge x y z (err (others ++ more)) on.out)
-failed-then old mid bytes piece others fed NoMemory x y z is e err =
-    let on = goes_to old mid bytes fed x y is e in
-    λ more.
-    let stop = err (others ++ more) in
-    record {
-      given = on.given ++ stop.given;
-      out = stop.out ∙ ap (λ (w : List ℕ). w ++ stop.given) on.out ∙ append_assoc x on.given stop.given;
-      next = stop.next;
-      front = regroup old mid bytes piece others more x y on ∙ ap (behind on.given) stop.front ∙ sym (behind-append on.given stop.given stop.next);
-    }
+pub failed-then : (old mid new : Progress) (bytes piece others : List ℕ) (fed : Fed) (error : ChunkError) (x y z : List ℕ) → Feeds old bytes (Ok fed) mid x y → fed.done ≡ false
+    → Feeds mid piece (Err error) new y z → Feeds old ((bytes ++ piece) ++ others) (Err error) new x z
+failed-then old mid new bytes piece others fed error x y z is e err =
+    record { answers = λ more. told more (goes_to old mid bytes fed x y is e) (err.answers (others ++ more)); within = tt; goes_on = tt; finished = tt; failed = err.failed }
+  where
+    told : (more : List ℕ) → Advances old bytes mid [] x y
+        → AnswersErr (reading mid (piece ++ (others ++ more))) error y z ⊎ ((error ≡ NoMemory) × Stops (reading mid (piece ++ (others ++ more))) y z)
+        → AnswersErr (reading old (((bytes ++ piece) ++ others) ++ more)) error x z ⊎ ((error ≡ NoMemory) × Stops (reading old (((bytes ++ piece) ++ others) ++ more)) x z)
+    told more on (inl shown) = inl (rw (regroup old mid bytes piece others more x y on) (err_behind (reading mid (piece ++ (others ++ more))) on.given error x y z shown on.out))
+    told more on (inr (want, stop)) =
+        inr (
+          want,
+          record {
+            given = on.given ++ stop.given;
+            out = stop.out ∙ ap (λ (w : List ℕ). w ++ stop.given) on.out ∙ append_assoc x on.given stop.given;
+            next = stop.next;
+            front = regroup old mid bytes piece others more x y on ∙ ap (behind on.given) stop.front ∙ sym (behind-append on.given stop.given stop.next);
+            owes = stop.owes;
+          },
+        )
 
 -- ---- the pieces, joined
 
@@ -127,15 +118,10 @@ module _ {X : Type 0} (f : X → List ℕ) (xs : List X) (i : ℕ) (x : X) (with
       ∙ ap (λ (y : List ℕ). y ++ flat_map f (drop (i + 1) xs)) pieces-more
 
 -- both counts together are at most the bytes of all pieces
-pub both_within : (old mid : Progress) (bytes piece others : List ℕ) (fed next : Fed) (x y z : List ℕ) → IsFed old mid bytes fed x y → fed.done ≡ false → AnswersOk (reading mid piece) piece next y z
+pub both_within : (old mid : Progress) (bytes piece others : List ℕ) (fed next : Fed) (x y : List ℕ) → Feeds old bytes (Ok fed) mid x y → fed.done ≡ false → next.taken ≤ length piece
     → fed.taken + next.taken ≤ length ((bytes ++ piece) ++ others)
-both_within old mid bytes piece others fed next x y z is e ok =
-    omega (arith, all_taken (reading old bytes) bytes fed x y is.ok e, within_of (reading mid piece) ok, length-append (bytes ++ piece) others, length-append bytes piece)
-  where
-    within_of : (body : Body) → AnswersOk body piece next y z → next.taken ≤ length piece
-    within_of (Whole given rest) ok = ok.1
-    within_of (Unfinished given) ok = omega (arith, ok.1)
-    within_of (Broken given error) ok = absurd ok
+both_within old mid bytes piece others fed next x y is e within =
+    omega (arith, all_taken (reading old bytes) bytes fed x y is.answers e, within, length-append (bytes ++ piece) others, length-append bytes piece)
 
 pub false_from_not : (b : Bool) → not b ≡ true → b ≡ false
 false_from_not true e = absurd cc

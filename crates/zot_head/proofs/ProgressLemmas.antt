@@ -1,6 +1,6 @@
 -- A body in chunks, one byte or some bytes of a chunk on.
 use Rattle.std.proofs.Common.{◌≡◌, ◌≢◌, ◌⊎◌, ℕ, zero, suc, ◌+◌, ◌-◌, ◌<◌, ◌≤◌, Bool, true, false, cond, eqb, leb, ltb, List, [], ◌∷◌, ◌++◌, length, take, drop, get_or, refl, sym, ap, ◌∙◌, arith, inl, inr, Option, Some, None, append_assoc}
-use Rattle.std.specs.Prelude.{option_map, Err}
+use Rattle.std.specs.Prelude.{option_map, Ok, Err, IsTrue}
 use Rattle.std.proofs.lemmas.List.{length-append, length-take, take_all, take_at, drop_at, append-nil, take-append-drop, drop_all}
 use Rattle.std.proofs.lemmas.Bool.Decides.{nat_tests}
 use Rattle.std.proofs.Math.Seq.{take-append-add, drop-append-add}
@@ -14,7 +14,7 @@ use Rattle.zot_head.specs.declared.stage.Stage.TheVariants.{Line, Bytes, Tail, T
 use Rattle.zot_head.specs.Chunked.{size_of, Body, Whole, Unfinished, Broken, behind, from_trailer, from_tail, from_bytes, from_size, chunked}
 use Rattle.zot_head.specs.Limits.{chunk_line_limit, trailer_limit}
 use Rattle.zot_head.specs.Lines.{line_end, Ends, Passes, Goes, extent_of, extent}
-use Rattle.zot_head.specs.Progress.{trailer_end, Progress, reading_at, reading, IsSound, goes_on, Advances, Stops, AnswersOk, Answers}
+use Rattle.zot_head.specs.Progress.{trailer_end, Progress, reading_at, reading, IsSound, goes_on, Advances, seen, Feeds}
 use Rattle.zot_head.proofs.LineLemmas.{chosen}
 use Rattle.zot_head.proofs.ChunkLemmas.{chunked_is}
 
@@ -98,20 +98,10 @@ trailer-more before after left b bytes e =
     let same : leb (suc left) (suc (length bytes)) ≡ leb left (length bytes) = grind (arith, nat_tests) in
     rw (e, same) (shift (after (take left bytes)) (leb left (length bytes)) b bytes)
 
--- behind the empty line
-pub trailer-ends : (before : List ℕ → Option ℕ) (left b : ℕ) (bytes : List ℕ) → before (b ∷ take left bytes) ≡ Some 1
-    → from_trailer (extent before (suc left) (b ∷ bytes)) (b ∷ bytes) ≡ Whole [] bytes
-trailer-ends before left b bytes e = rw e refl
-
 trailer_end-nil : (so_far : LineSoFar) → trailer_end so_far [] ≡ None
 trailer_end-nil Start = refl
 trailer_end-nil Return = refl
 trailer_end-nil Inside = refl
-
-pub trailer-passes : (so_far : LineSoFar) (bytes : List ℕ) → from_trailer (extent (trailer_end so_far) 0 bytes) bytes ≡ Broken [] TooLong
-trailer-passes so_far bytes =
-    let come : leb 0 (length bytes) ≡ true = grind (arith, nat_tests) in
-    rw (trailer_end-nil so_far, come) refl
 
 trailer-goes : (so_far : LineSoFar) (left : ℕ) → 0 < left → from_trailer (extent (trailer_end so_far) left []) [] ≡ Unfinished []
 trailer-goes so_far zero lt = absurd (omega arith)
@@ -204,14 +194,22 @@ advances-bytes old new size n piece before after was room le within now out =
           | inr h ↦ rw (len, h, room) refl
         ])
 
--- ---- one advance after another
+-- a chunk's bytes that have come are seen
+bytes-seen : (next : List ℕ → Body) (size : ℕ) (bytes : List ℕ) → 0 < size → 0 < length bytes → 0 < length (seen (from_bytes next size bytes))
+bytes-seen next zero bytes s b = absurd (omega arith)
+bytes-seen next (suc size) [] s b = absurd (omega arith)
+bytes-seen next (suc size) (x ∷ bytes) s b = step (ltb (suc (length bytes)) (suc size)) (from_tail next (drop size bytes))
+  where
+    step : (t : Bool) (tail : Body) → 0 < length (seen (cond t (Unfinished (x ∷ bytes)) (behind (x ∷ take size bytes) tail)))
+    step true tail = omega arith
+    step false (Whole given rest) = omega arith
+    step false (Unfinished given) = omega arith
+    step false (Broken given error) = omega arith
 
-pub advances-then : (a b c : Progress) (bytes rest last x y z : List ℕ) → Advances a bytes b rest x y → Advances b rest c last y z → Advances a bytes c last x z
-advances-then a b c bytes rest last x y z one two = record {
-  given = one.given ++ two.given;
-  out = two.out ∙ ap (λ (w : List ℕ). w ++ two.given) one.out ∙ append_assoc x one.given two.given;
-  same = λ more. one.same more ∙ ap (behind one.given) (two.same more) ∙ sym (behind-append one.given two.given (reading c (last ++ more)));
-}
+pub bytes-owed : (old : Progress) (size : ℕ) (piece : List ℕ) → old.stage ≡ Bytes size → 0 < size → 0 < length piece → (more : List ℕ) → 0 < length (seen (reading old (piece ++ more)))
+bytes-owed old size piece is some come more = rw is (bytes-seen (chunked old.room) size (piece ++ more) some (omega (arith, come, length-append piece more)))
+
+-- ---- one advance after another
 
 pub advances-piece : (a b c : Progress) (bytes piece last x y z : List ℕ) → Advances a bytes b [] x y → Advances b piece c last y z → Advances a (bytes ++ piece) c last x z
 advances-piece a b c bytes piece last x y z one two = record {
@@ -222,24 +220,7 @@ advances-piece a b c bytes piece last x y z one two = record {
       ∙ sym (behind-append one.given two.given (reading c (last ++ more)));
 }
 
-pub advances-none : (a : Progress) (bytes x : List ℕ) → Advances a bytes a bytes x x
-advances-none a bytes x = record { given = []; out = sym (append-nil x); same = λ more. sym (behind-nil (reading a (bytes ++ more))) }
-
--- one byte
-pub advances-byte : (old new : Progress) (piece x y : List ℕ) (byte : ℕ) → 0 < length piece → byte ≡ get_or piece 0 0
-    → ((more : List ℕ) → reading old (byte ∷ more) ≡ reading new more) → y ≡ x → Advances old piece new (drop 1 piece) x y
-advances-byte old new [] x y byte some is same out = absurd (omega arith)
-advances-byte old new (b ∷ piece) x y byte some is same out = record {
-  given = [];
-  out = out ∙ sym (append-nil x);
-  same = λ more. ap (λ (c : ℕ). reading old (c ∷ (piece ++ more))) (sym is) ∙ same (piece ++ more) ∙ sym (behind-nil (reading new (piece ++ more)));
-}
-
 -- ---- what a call answers
-
-pub stops : (old mid : Progress) (piece rest x y z : List ℕ) → Advances old piece mid rest x y → z ≡ y → (more : List ℕ) → Stops (reading old (piece ++ more)) x z
-stops old mid piece rest x y z so_far same more =
-    record { given = so_far.given; out = same ∙ so_far.out; next = reading mid (rest ++ more); front = so_far.same more }
 
 -- what the piece says, where nothing comes behind it
 says : (old new : Progress) (piece rest x y : List ℕ) (next : Body) (on : Advances old piece new rest x y) → reading new rest ≡ next → reading old piece ≡ behind on.given next
@@ -249,25 +230,50 @@ says old new piece rest x y next on e =
 more_out : (x y given : List ℕ) → y ≡ x ++ given → y ≡ x ++ (given ++ [])
 more_out x y given e = e ∙ ap (λ (g : List ℕ). x ++ g) (sym (append-nil given))
 
-pub answers-done : (old new : Progress) (piece x y : List ℕ) (fed : Fed) → Advances old piece new (drop fed.taken piece) x y → fed.taken ≤ length piece → fed.done ≡ true → new.stage ≡ Done
-    → AnswersOk (reading old piece) piece fed x y
-answers-done old new piece x y fed on le done is =
+pub feeds-done : (old new : Progress) (piece x y : List ℕ) (fed : Fed) → Advances old piece new (drop fed.taken piece) x y → fed.taken ≤ length piece → fed.done ≡ true → new.stage ≡ Done
+    → Feeds old piece (Ok fed) new x y
+feeds-done old new piece x y fed on le done is =
     let e : reading new (drop fed.taken piece) ≡ Whole [] (drop fed.taken piece) = rw is refl in
-    rw (says old new piece (drop fed.taken piece) x y (Whole [] (drop fed.taken piece)) on e) (done, le, refl, more_out x y on.given on.out)
+    record {
+      answers = rw (says old new piece (drop fed.taken piece) x y (Whole [] (drop fed.taken piece)) on e) (done, le, refl, more_out x y on.given on.out);
+      within = le;
+      goes_on = on;
+      finished = λ t bytes. rw is refl;
+      failed = tt;
+    }
 
-pub answers-goes : (old new : Progress) (piece x y : List ℕ) (fed : Fed) → Advances old piece new (drop fed.taken piece) x y → fed.taken ≡ length piece → fed.done ≡ false
-    → IsSound new.stage new.line → GoesOn new.stage → AnswersOk (reading old piece) piece fed x y
-answers-goes old new piece x y fed on all done sound goes =
+pub feeds-goes : (old new : Progress) (piece x y : List ℕ) (fed : Fed) → Advances old piece new (drop fed.taken piece) x y → fed.taken ≡ length piece → fed.done ≡ false
+    → IsSound new.stage new.line → GoesOn new.stage → Feeds old piece (Ok fed) new x y
+feeds-goes old new piece x y fed on all done sound goes =
     let nothing : drop fed.taken piece ≡ [] = drop_all fed.taken piece (omega (arith, all)) in
     let e : reading new (drop fed.taken piece) ≡ Unfinished [] = rw nothing (reading_at-nil new.stage new.room new.line sound goes) in
-    rw (says old new piece (drop fed.taken piece) x y (Unfinished []) on e) (done, all, more_out x y on.given on.out)
+    record {
+      answers = rw (says old new piece (drop fed.taken piece) x y (Unfinished []) on e) (done, all, more_out x y on.given on.out);
+      within = omega (arith, all);
+      goes_on = on;
+      finished = λ t. absurd (clash fed.done done t);
+      failed = tt;
+    }
+  where
+    clash : (b : Bool) → b ≡ false → IsTrue b → ⊥
+    clash true e t = cc
+    clash false e t = cc
 
-pub answers-failed : (old new : Progress) (piece rest x y : List ℕ) (error : ChunkError) → Advances old piece new rest x y → new.stage ≡ Failed error
-    → Answers old piece (Err error) x y
-answers-failed old new piece rest x y Bad on is = λ more. rw (on.same more, is) (refl, more_out x y on.given on.out)
-answers-failed old new piece rest x y TooLong on is = λ more. rw (on.same more, is) (refl, more_out x y on.given on.out)
-answers-failed old new piece rest x y TooLarge on is = λ more. rw (on.same more, is) (refl, more_out x y on.given on.out)
-answers-failed old new piece rest x y NoMemory on is = stops old new piece rest x y y on refl
+pub feeds-failed : (old new : Progress) (piece rest x y : List ℕ) (error : ChunkError) → Advances old piece new rest x y → new.stage ≡ Failed error → Feeds old piece (Err error) new x y
+feeds-failed old new piece rest x y error on is =
+    record { answers = λ more. inl (rw (on.same more, is) (refl, more_out x y on.given on.out)); within = tt; goes_on = tt; finished = tt; failed = λ bytes. rw is refl }
+
+-- memory ran out in a step, before a byte of the body
+pub feeds-stopped : (old mid new : Progress) (piece rest x y z : List ℕ) → Advances old piece mid rest x y → new.stage ≡ Failed NoMemory → z ≡ y
+    → ((more : List ℕ) → 0 < length (seen (reading mid (rest ++ more)))) → Feeds old piece (Err NoMemory) new x z
+feeds-stopped old mid new piece rest x y z so_far is same owes = record {
+  answers = λ more.
+      inr (refl, record { given = so_far.given; out = same ∙ so_far.out; next = reading mid (rest ++ more); front = so_far.same more; owes = owes more });
+  within = tt;
+  goes_on = tt;
+  finished = tt;
+  failed = λ bytes. rw is refl;
+}
 
 -- a stage that is neither the last nor an error
 pub goes-otherwise : (stage : Stage) → (stage ≡ Done → ⊥) → ((error : ChunkError) → stage ≡ Failed error → ⊥) → GoesOn stage

@@ -65,9 +65,6 @@ few_fields bytes h reads few =
 pub no_head : (bytes : List ℕ) → ¬ (IsCrowded bytes) → ((h : RequestHead) → ¬ (ReadsRequest bytes h [])) → IsNoHead bytes
 no_head bytes few none = record { few_lines = few; none = λ head is. none is.request is.reads }
 
-pub no_head-without : (bytes : List ℕ) → ¬ (IsCrowded bytes) → HasNoRequest bytes → IsNoHead bytes
-no_head-without bytes few none = no_head bytes few (λ h. none h [])
-
 -- a request that ends earlier isn't one over all bytes
 pub no_head-longer : (bytes rest : List ℕ) (h : RequestHead) → ¬ (IsCrowded bytes) → ReadsRequest bytes h rest → 0 < length rest → IsNoHead bytes
 no_head-longer bytes rest h few reads some =
@@ -153,7 +150,7 @@ texts_at bytes spans r h within at =
 -- ---- all of the bytes
 
 -- a request that takes all bytes is read over them
-whole_request : (bytes : List ℕ) (spans : List HeaderSpan) (r : RequestSpans) (h : RequestHead) → length bytes ≤ r.len → IsRequestAt bytes spans r h → ReadsRequest bytes h []
+pub whole_request : (bytes : List ℕ) (spans : List HeaderSpan) (r : RequestSpans) (h : RequestHead) → length bytes ≤ r.len → IsRequestAt bytes spans r h → ReadsRequest bytes h []
 whole_request bytes spans r h le at = subst (λ (rest : List ℕ). ReadsRequest bytes h rest) (drop_all r.len bytes le) at.reads
 
 pub is_head : (bytes : List ℕ) (spans : List HeaderSpan) (r : RequestSpans) (h : RequestHead) (head : Head) → ¬ (IsCrowded bytes) → length bytes ≤ r.len → IsRequestAt bytes spans r h → HasParts h head → IsHead bytes head

@@ -1,4 +1,6 @@
--- A body in chunks (RFC 9112, section 7.1): chunks, the last of size 0, and a trailer section.
+-- A body in chunks (RFC 9112, section 7.1): chunks, the last of size 0, and a trailer section. Departing from
+-- it, an extension (7.1.1) follows the size with no blank between and has no byte above 0x7e, and the lines of a
+-- trailer section (7.1.2) aren't read, so that any but an empty one passes.
 use Rattle.std.specs.Prelude.{◌≤◌, ◌<◌, ◌≡◌, ℕ, zero, suc, ◌-◌, Bool, true, false, ◌&&◌, ◌||◌, List, [], ◌∷◌, ◌++◌, length, take, drop, if◌then◌else◌, ◌==◌, nat_lt, nat_le, Option, Some, None, take_while}
 use Rattle.std.specs.List.{flat_map, AllByRecursion}
 use Rattle.std.specs.Char.{is_ascii_hexdigit}

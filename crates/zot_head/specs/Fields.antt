@@ -1,5 +1,5 @@
--- What a head's fields say of its body and its connection (RFC 9112, sections 6 and 9). Names and the
--- words of values are compared without regard to case.
+-- What a head's fields say of its body and its connection (RFC 9112, sections 6.1 to 6.3, 9.3 and 9.6). Names
+-- and the words of values are compared without regard to case.
 use Rattle.std.specs.Prelude.{ℕ, Bool, true, false, ◌&&◌, ◌||◌, List, [], ◌∷◌, length, map, if◌then◌else◌, ◌==◌, nat_lt, nat_le, Option, Some, None, codes}
 use Rattle.std.specs.List.{list_any, list_all, slice_split}
 use Rattle.std.specs.Str.{bytes_eq}
@@ -20,7 +20,7 @@ abbrev pub values_of : List ℕ → List Field → List (List ℕ)
 values_of name [] = []
 values_of name (f ∷ fields) = if is_word name f.name then f.value ∷ values_of name fields else values_of name fields
 
--- the number that 1 to 18 decimal digits write
+-- the number that 1 to 18 decimal digits write (RFC 9112, section 6.2)
 unfoldable pub length_of : List ℕ → Option ℕ
 length_of value =
     if nat_lt 0 (length value) && nat_le (length value) 18 && list_all is_ascii_digit value
@@ -31,8 +31,9 @@ abbrev pub framing_by_length : Option ℕ → Option Framing
 framing_by_length None = None
 framing_by_length (Some n) = Some (framings.Length n)
 
--- The framing that the values of `Content-Length` and of `Transfer-Encoding` give: one length, or the
--- one coding `chunked`, or neither. Nothing else has a framing.
+-- The framing that the values of `Content-Length` and of `Transfer-Encoding` give (RFC 9112, section 6.3):
+-- one length, or the one coding `chunked`, or neither. Nothing else has a framing. Departing from section 6.1,
+-- another coding is refused as no framing (400 and not 501), and a request of version 1.0 may come in chunks.
 abbrev pub framing_by : List (List ℕ) → List (List ℕ) → Option Framing
 framing_by [] [] = Some framings.None
 framing_by (value ∷ []) [] = framing_by_length (length_of value)
@@ -65,10 +66,11 @@ close_word = codes "close"
 abbrev pub lists_close : List ℕ → Bool
 lists_close value = list_any (λ piece. is_word close_word (trim_ows piece)) (slice_split (λ b. b == comma) value)
 
--- whether a field asks to close the connection (RFC 9112, section 9.6)
+-- whether a field asks to close the connection
 unfoldable pub is_close : Field → Bool
 is_close f = is_word (codes "connection") f.name && lists_close f.value
 
--- whether the connection closes behind a request of that minor version
+-- whether the connection closes behind a request of that minor version (RFC 9112, sections 9.3 and 9.6): in
+-- version 1.0 always, so `keep-alive` isn't honored
 abbrev pub closes_of : ℕ → List Field → Bool
 closes_of minor fields = minor == 0 || list_any is_close fields

@@ -54,7 +54,8 @@ pub data Front : Type 0 where
   Refused : Refusal → Front
   Partial : Front
 
--- the refusal of a body in chunks
+-- The refusal of a body in chunks. Bytes are never refused for want of memory, so the last case stands for
+-- nothing (`refused_for_its_bytes`): a message has no refusal for it, and the readers' errors have it.
 abbrev pub refusal_of : ChunkError → Refusal
 refusal_of errors.Bad = HeadInvalid
 refusal_of errors.TooLong = HeadTooLong
@@ -75,7 +76,8 @@ with_body limit head (framings.Length n) bytes =
     else (if nat_lt (length bytes) n then Partial else Message head (take n bytes) (drop n bytes))
 with_body limit head framings.Chunked bytes = with_chunks head (chunked limit bytes)
 
--- what a message is whose head ends: these bytes are its head, and those stand behind it
+-- What a message is whose head ends: these bytes are its head, and those stand behind it. The number of its
+-- lines comes first, then its form and its framing, then its body.
 pub data IsMessage (limit : ℕ) (text bytes : List ℕ) (front : Front) : Type 0 where
   crowded : IsCrowded text → front ≡ Refused HeadTooLong → IsMessage limit text bytes front
   invalid : IsNoHead text → front ≡ Refused HeadInvalid → IsMessage limit text bytes front
@@ -87,8 +89,8 @@ IsFrontBy limit bytes Goes front = front ≡ Partial
 IsFrontBy limit bytes Passes front = front ≡ Refused HeadTooLong
 IsFrontBy limit bytes (Ends n) front = IsMessage limit (take n bytes) (drop n bytes) front
 
--- That stands at the front of the bytes, where a body has at most `limit` bytes. The head ends within
--- its limit; then come the number of its lines, its form and its framing, and its body.
+-- That stands at the front of the bytes, where a body has at most `limit` bytes. How far the head goes comes
+-- before all that it holds.
 abbrev pub IsFront : ℕ → List ℕ → Front → Type 0
 IsFront limit bytes front = IsFrontBy limit bytes (extent head_end head_limit bytes) front
 

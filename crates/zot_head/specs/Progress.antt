@@ -1,8 +1,8 @@
 -- What is left of a body in chunks when some of its bytes have come.
-use Rattle.std.specs.Prelude.{◌≡◌, ℕ, suc, ◌<◌, ◌≤◌, Bool, true, false, List, [], ◌∷◌, ◌++◌, length, drop, if◌then◌else◌, ◌==◌, Option, Some, None, option_map, Result, Ok, Err}
+use Rattle.std.specs.Prelude.{◌≡◌, ◌⊎◌, ℕ, suc, ◌<◌, ◌≤◌, Bool, true, false, List, [], ◌∷◌, ◌++◌, length, drop, if◌then◌else◌, ◌==◌, Option, Some, None, option_map, Result, Ok, Err, IfOk, IfErr, IsTrue}
 use Rattle.httparse.specs.Ascii.{line_feed}
 use Rattle.zot_head.specs.declared.chunk_error.ChunkError.{ChunkError}
-use Rattle.zot_head.specs.declared.chunk_error.ChunkError.TheVariants.{Bad, TooLong, TooLarge, NoMemory}
+use Rattle.zot_head.specs.declared.chunk_error.ChunkError.TheVariants.{NoMemory}
 use Rattle.zot_head.specs.declared.fed.Fed.{Fed}
 use Rattle.zot_head.specs.declared.stage.LineSoFar.{LineSoFar}
 use Rattle.zot_head.specs.declared.stage.LineSoFar.TheVariants.{Start, Return, Inside}
@@ -87,17 +87,39 @@ AnswersErr (Whole given rest) error before after = ⊥
 AnswersErr (Unfinished given) error before after = ⊥
 AnswersErr (Broken given broken) error before after = (error ≡ broken) × (after ≡ before ++ given)
 
--- memory ran out behind some of the body's bytes, which were given out
+-- the body's bytes that are seen
+abbrev pub seen : Body → List ℕ
+seen (Whole body rest) = body
+seen (Unfinished body) = body
+seen (Broken body error) = body
+
+-- memory ran out before one of the body's bytes, behind those that were given out
 pub record Stops (body : Body) (before after : List ℕ) : Type 0 where
   pub given : List ℕ
   pub out : after ≡ before ++ given
   pub next : Body
   pub front : body ≡ behind given next
+  pub owes : 0 < length (seen next)
 
--- What a call answers and gives out. An error is the one that the piece shows, whatever comes behind it.
+-- What a call answers and gives out. An error is the one that the piece shows, whatever comes behind it, or
+-- memory ran out.
 abbrev pub Answers : Progress → List ℕ → Result Fed ChunkError → List ℕ → List ℕ → Type 0
 Answers old piece (Ok fed) before after = AnswersOk (reading old piece) piece fed before after
-Answers old piece (Err NoMemory) before after = (more : List ℕ) → Stops (reading old (piece ++ more)) before after
-Answers old piece (Err Bad) before after = (more : List ℕ) → AnswersErr (reading old (piece ++ more)) Bad before after
-Answers old piece (Err TooLong) before after = (more : List ℕ) → AnswersErr (reading old (piece ++ more)) TooLong before after
-Answers old piece (Err TooLarge) before after = (more : List ℕ) → AnswersErr (reading old (piece ++ more)) TooLarge before after
+Answers old piece (Err error) before after =
+    (more : List ℕ) → AnswersErr (reading old (piece ++ more)) error before after ⊎ ((error ≡ NoMemory) × Stops (reading old (piece ++ more)) before after)
+
+-- What a call over a piece answers and gives out, and how it leaves the reader. What comes behind the piece is
+-- read as if all had come at once; behind the body nothing is taken, and behind an error it comes again.
+pub record Feeds (old : Progress) (piece : List ℕ) (result : Result Fed ChunkError) (new : Progress) (before after : List ℕ) : Type 0 where
+  pub answers : Answers old piece result before after
+  pub within : IfOk result (λ fed. fed.taken ≤ length piece)
+  pub goes_on : IfOk result (λ fed. Advances old piece new (drop fed.taken piece) before after)
+  pub finished : IfOk result (λ fed. IsTrue fed.done → (bytes : List ℕ) → reading new bytes ≡ Whole [] bytes)
+  pub failed : IfErr result (λ error. (bytes : List ℕ) → reading new bytes ≡ Broken [] error)
+
+-- what a step within a call answers: it took so many bytes of the piece, at least one, and they lead on; or
+-- memory ran out before the first of the body's bytes that the piece shows
+abbrev pub Steps : {E : Type 0} → Progress → List ℕ → Result ℕ E → Progress → List ℕ → List ℕ → Type 0
+Steps old piece (Ok n) new before after = (0 < n) × (n ≤ length piece) × Advances old piece new (drop n piece) before after
+Steps old piece (Err error) new before after =
+    (new.stage ≡ Failed NoMemory) × (after ≡ before) × ((more : List ℕ) → 0 < length (seen (reading old (piece ++ more))))

@@ -1,4 +1,4 @@
-ghost use Rattle.std.specs.Prelude.{◌≡◌, ℕ, ◌<◌, ◌≤◌, ◌^◌, List, [], length, drop, IfOk, IfErr, OnErr, IsTrue};
+ghost use Rattle.std.specs.Prelude.{◌≡◌, ℕ, ◌<◌, ◌^◌, List, length, IsTrue};
 ghost use Rattle.std.specs.List.{flat_map};
 
 use crate::after::{after_line_byte, after_tail_byte, after_trailer_byte};
@@ -28,9 +28,8 @@ impl Model for Chunks {
 }
 
 impl Chunks {
-    ghost use Rattle.zot_head.specs.Chunked.{Body, Whole, Broken, chunked};
-    ghost use Rattle.zot_head.specs.Progress.{reading, goes_on, Advances, Answers};
-    ghost use Rattle.zot_head.specs.declared.chunk_error.ChunkError.TheVariants as errors;
+    ghost use Rattle.zot_head.specs.Chunked.{chunked};
+    ghost use Rattle.zot_head.specs.Progress.{reading, goes_on, Feeds, Steps};
     ghost use Rattle.zot_head.specs.declared.stage.Stage.TheVariants as stages;
 
     /// A reader at the front of a body of at most so many bytes. Takes no memory.
@@ -63,11 +62,7 @@ impl Chunks {
     ) -> Result<usize, AllocError>
         requires stage { self.old.stage ≡ stages.Bytes size }
         requires some { 0 < length piece.now }
-        ensures taken { IfOk result (λ n. (0 < n) × (n ≤ length piece.now)) }
-        ensures ok { IfOk result (λ n.
-            Advances self.old piece.now self.new (drop n piece.now) out.old.items out.new.items) }
-        ensures err { OnErr result
-            ((self.new.stage ≡ stages.Failed errors.NoMemory) × (out.new.items ≡ out.old.items)) }
+        ensures { Steps self.old piece.now result self.new out.old.items out.new.items }
     {
         let n = size.min(piece.len() as u64);
         let len = n as usize;
@@ -87,11 +82,7 @@ impl Chunks {
     fn step(&mut self, piece: &[u8], out: &mut Vec<u8>) -> Result<usize, AllocError>
         requires goes_on { IsTrue (goes_on self.old.stage) }
         requires some { 0 < length piece.now }
-        ensures taken { IfOk result (λ n. (0 < n) × (n ≤ length piece.now)) }
-        ensures ok { IfOk result (λ n.
-            Advances self.old piece.now self.new (drop n piece.now) out.old.items out.new.items) }
-        ensures err { OnErr result
-            ((self.new.stage ≡ stages.Failed errors.NoMemory) × (out.new.items ≡ out.old.items)) }
+        ensures { Steps self.old piece.now result self.new out.old.items out.new.items }
     {
         let byte = piece[0];
         match self.stage {
@@ -118,17 +109,7 @@ impl Chunks {
     /// byte; `taken` tells what belongs to the body in chunks, and the whole piece does until then. An
     /// error stands for good: it is answered at each later call. What was given out before it stays.
     pub fn feed(&mut self, piece: &[u8], out: &mut Vec<u8>) -> Result<Fed, ChunkError>
-        // The answer, and the bytes given out, are what the piece says of the body.
-        ensures answers { Answers self.old piece.now result out.old.items out.new.items }
-        ensures within { IfOk result (λ fed. fed.taken ≤ length piece.now) }
-        // What comes behind is read as if all had come at once.
-        ensures goes_on { IfOk result (λ fed. Advances self.old piece.now self.new
-            (drop fed.taken piece.now) out.old.items out.new.items) }
-        // Behind the body nothing is taken, and behind an error it comes again.
-        ensures finished { IfOk result (λ fed. IsTrue fed.done
-            → (bytes : List ℕ) → reading self.new bytes ≡ Whole [] bytes) }
-        ensures failed { IfErr result (λ error.
-            (bytes : List ℕ) → reading self.new bytes ≡ Broken [] error) }
+        ensures { Feeds self.old piece.now result self.new out.old.items out.new.items }
     {
         let mut taken = 0;
         while taken < piece.len() && self.goes_on() {
@@ -148,15 +129,8 @@ impl Chunks {
     /// bytes would, however they were cut.
     pub fn feed_all(&mut self, pieces: &[Vec<u8>], out: &mut Vec<u8>) -> Result<Fed, ChunkError>
         requires { length (flat_map (λ piece. piece.items) pieces.now) < 2 ^ 64 }
-        ensures answers { Answers self.old (flat_map (λ piece. piece.items) pieces.now) result
+        ensures { Feeds self.old (flat_map (λ piece. piece.items) pieces.now) result self.new
             out.old.items out.new.items }
-        ensures goes_on { IfOk result (λ fed.
-            Advances self.old (flat_map (λ piece. piece.items) pieces.now) self.new
-            (drop fed.taken (flat_map (λ piece. piece.items) pieces.now)) out.old.items out.new.items) }
-        ensures finished { IfOk result (λ fed. IsTrue fed.done
-            → (bytes : List ℕ) → reading self.new bytes ≡ Whole [] bytes) }
-        ensures failed { IfErr result (λ error.
-            (bytes : List ℕ) → reading self.new bytes ≡ Broken [] error) }
     {
         let mut fed = self.feed(&[], out)?;
         for piece in pieces {

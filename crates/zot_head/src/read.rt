@@ -1,6 +1,6 @@
 //! Reading a head.
-ghost use Rattle.std.specs.Prelude.{◌≡◌, ◌≢◌, ◌↔◌, length, map, IsTrue, IsUtf8, IfOk, All};
-ghost use Rattle.httparse.specs.Grammar.{RequestHead};
+ghost use Rattle.std.specs.Prelude.{◌≡◌, ◌≢◌, ◌↔◌, [], length, map, IsTrue, IsUtf8, IfOk, All};
+ghost use Rattle.httparse.specs.Grammar.{RequestHead, ReadsRequest};
 ghost use Rattle.httparse.specs.Spans.{span_bytes, IsWithin, IsHeaderWithin, IsRequestWithin, IsRequestAt};
 ghost use Rattle.zot_head.specs.Front.{field_of as field_of_line, IsCrowded, IsHead, IsNoHead, HasParts};
 ghost use Rattle.zot_head.specs.Fields.{framing_of};
@@ -104,11 +104,14 @@ fn head_of(
 }
 
 /// Reads the head of a request, which is all of these bytes (RFC 9112, sections 2 to 6), as `httparse`
-/// does. `TooLong` comes before `Bad`. Departing from RFC 9112, section 3.2, `Host` isn't looked at.
+/// does. `TooLong` comes before `Bad`, and memory can only run out over what is read as a request.
+/// Departing from RFC 9112, section 3.2, `Host` isn't looked at.
 pub fn read_head(alloc: Global, bytes: &[u8]) -> Result<Head, HeadError>
     ensures head { IfOk result (IsHead bytes.now) }
     ensures bad { result ≡ Err HeadError.Bad → IsNoHead bytes.now }
     ensures too_long { (result ≡ Err HeadError.TooLong) ↔ IsCrowded bytes.now }
+    ensures no_memory { result ≡ Err HeadError.NoMemory
+        → (h : RequestHead) × ReadsRequest bytes.now h [] }
 {
     if is_crowded(bytes) {
         return Err(HeadError::TooLong);

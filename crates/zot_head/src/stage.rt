@@ -1,7 +1,7 @@
 use crate::chunk_error::ChunkError;
 
 /// How much of a trailer line has come.
-#[derive(Clone, Copy, Debug, PartialEq, Eq)]
+#[derive(Clone, Copy)]
 pub(crate) enum LineSoFar {
     /// Nothing.
     Start,
@@ -12,7 +12,7 @@ pub(crate) enum LineSoFar {
 }
 
 /// Where in a body in chunks the next byte stands.
-#[derive(Clone, Copy, Debug, PartialEq, Eq)]
+#[derive(Clone, Copy)]
 pub(crate) enum Stage {
     /// In a chunk's line.
     Line,

@@ -1,115 +1,173 @@
-use crate::{ChunkError, Chunks, Fed};
-use std::alloc::{AllocError, Global};
+use super::repeated;
+use crate::{
+    ChunkError, Chunks, Fed, front_is_one, message_takes, only_sent_is_read, refused_for_its_bytes,
+    sent_is_read,
+};
+use std::alloc::Global;
 use std::test::Fail;
 
-// What two pieces give: the body's bytes, and how many bytes belong to it or why it is refused.
-fn read_cut(
-    alloc: Global,
-    limit: u64,
-    front: &[u8],
-    back: &[u8],
-) -> (Vec<u8>, Result<usize, ChunkError>) {
-    let mut chunks = Chunks::new(limit);
-    let mut out = Vec::new(alloc);
-    let first = chunks.feed(front, &mut out);
-    // An error is answered again.
-    let second = chunks.feed(back, &mut out);
-    let taken = second.map(|fed| fed.taken.saturating_add(first.map_or(0, |fed| fed.taken)));
-    (out, taken)
+// What a call answers that takes so many bytes through the end of the body, or to where it is refused.
+fn ended(taken: usize, refusal: Option<ChunkError>) -> Result<Fed, ChunkError> {
+    match refusal {
+        Some(error) => Err(error),
+        None => Ok(Fed { taken, done: true }),
+    }
 }
 
-#[test]
-fn bodies_cut_anywhere(rt: HostRuntime) {
-    for (bytes, body, want) in [
-        (
-            b"3\r\nabc\r\n0\r\n\nGET".as_slice(),
-            b"abc".as_slice(),
-            Ok(12),
-        ),
-        (
-            b"A;x=\"\t~\r\n0123456789\r\n00;\r\nT: v\nU\r\r\n\r\n\n",
-            b"0123456789",
-            Ok(37),
-        ),
-        (b"0000000000000002\r\na\n\r\n0\r\n\r\n", b"a\n", Ok(27)),
-        (b"00000000000000002\r\nab\r\n", b"", Err(ChunkError::Bad)),
-        (b"g\r\n", b"", Err(ChunkError::Bad)),
-        (b"3 \r\n", b"", Err(ChunkError::Bad)),
-        (b"3;\x07\r\n", b"", Err(ChunkError::Bad)),
-        (b"3;a\n", b"", Err(ChunkError::Bad)),
-        (b"3\r\nabcd\r\n", b"abc", Err(ChunkError::Bad)),
-        (
-            b"A\r\n0123456789\r\n1\r\n",
-            b"0123456789",
-            Err(ChunkError::TooLarge),
-        ),
-        (b"ffffffffffffffff\r\n", b"", Err(ChunkError::TooLarge)),
-    ] {
-        for cut in 0..bytes.len() {
-            let (out, taken) = read_cut(rt.alloc(), 10, &bytes[..cut], &bytes[cut..]);
-            assert_eq!(rt; out.as_slice(), body, "{cut}");
-            assert_eq!(rt; taken, want, "{cut}");
+// What is to be answered to the bytes from `from` to `to` of those whose body ends at the place `end`.
+fn answered(
+    from: usize,
+    to: usize,
+    end: usize,
+    refusal: Option<ChunkError>,
+) -> Result<Fed, ChunkError> {
+    if to < end {
+        Ok(Fed {
+            taken: to.saturating_sub(from),
+            done: false,
+        })
+    } else {
+        ended(end.saturating_sub(from), refusal)
+    }
+}
+
+// The first place at which these bytes, cut in two there, are read otherwise.
+fn wrong_cut(
+    alloc: Global,
+    bytes: &[u8],
+    end: usize,
+    body: &[u8],
+    refusal: Option<ChunkError>,
+) -> Option<usize> {
+    for cut in 0..bytes.len() {
+        let mut chunks = Chunks::new(10);
+        let mut out = Vec::new(alloc);
+        let front = chunks.feed(&bytes[..cut], &mut out);
+        let back = chunks.feed(&bytes[cut..], &mut out);
+        if front != answered(0, cut, end, refusal)
+            || back != answered(cut, bytes.len(), end, refusal)
+            || out.as_slice() != body
+        {
+            return Some(cut);
         }
     }
+    None
 }
 
-// `front`, then so many bytes `a`, then two line ends.
-fn padded(alloc: Global, front: &[u8], count: u16) -> Result<Vec<u8>, AllocError> {
-    let mut bytes = Vec::from_slice(alloc, front)?;
-    for _ in 0..count {
-        bytes.push(b'a')?;
+// The first place at which these bytes, which come one by one, are read otherwise.
+fn wrong_byte(
+    alloc: Global,
+    bytes: &[u8],
+    end: usize,
+    refusal: Option<ChunkError>,
+) -> Option<usize> {
+    let mut chunks = Chunks::new(10);
+    let mut out = Vec::new(alloc);
+    for i in 0..bytes.len() {
+        if chunks.feed(&bytes[i..i + 1], &mut out) != answered(i, i + 1, end, refusal) {
+            return Some(i);
+        }
     }
-    bytes.extend_from_slice(b"\r\n\r\n")?;
-    Ok(bytes)
+    None
 }
 
 #[test]
-fn lines_and_trailers_of_most_bytes(rt: HostRuntime) -> Result<(), Fail> {
-    for (front, count, want) in [
+fn bodies_cut_anywhere(rt: HostRuntime) -> Result<(), Fail> {
+    for (front, count, back, end, body, refusal) in [
+        ("3\r\nabc\r\n0\r\n\nGET", 0, "", 12, "abc", None),
+        (
+            "A;x=\"\t~\r\n0123456789\r\n00;\r\nT: v\nU\r\r\n\r\n\n",
+            0,
+            "",
+            37,
+            "0123456789",
+            None,
+        ),
+        (
+            "0000000000000002\r\na\n\r\n0\r\n\r\n",
+            0,
+            "",
+            27,
+            "a\n",
+            None,
+        ),
         // A chunk's line of 256 bytes, and one of 257.
-        (b"0;".as_slice(), 252, Ok(258)),
-        (b"0;", 253, Err(ChunkError::Bad)),
+        ("0;", 252, "\r\n\r\n", 258, "", None),
+        ("0;", 253, "\r\n\r\n", 256, "", Some(ChunkError::Bad)),
         // A trailer section of 16,384 bytes, and one of 16,385.
-        (b"0\r\nT:", 16_378, Ok(16_387)),
-        (b"0\r\nT:", 16_379, Err(ChunkError::TooLong)),
+        ("0\r\nT:", 16_378, "\r\n\r\n", 16_387, "", None),
+        (
+            "0\r\nT:",
+            16_379,
+            "\r\n\r\n",
+            16_387,
+            "",
+            Some(ChunkError::TooLong),
+        ),
+        (
+            "00000000000000002\r\nab\r\n",
+            0,
+            "",
+            19,
+            "",
+            Some(ChunkError::Bad),
+        ),
+        ("g\r\n", 0, "", 3, "", Some(ChunkError::Bad)),
+        ("\r\n", 0, "", 2, "", Some(ChunkError::Bad)),
+        ("3\nabc", 0, "", 2, "", Some(ChunkError::Bad)),
+        ("3 \r\nabc", 0, "", 4, "", Some(ChunkError::Bad)),
+        ("3;\x07\r\nabc", 0, "", 5, "", Some(ChunkError::Bad)),
+        ("3;a\nabc", 0, "", 4, "", Some(ChunkError::Bad)),
+        ("3\r\nabcd\r\n", 0, "", 8, "abc", Some(ChunkError::Bad)),
+        (
+            "A\r\n0123456789\r\n1\r\n",
+            0,
+            "",
+            18,
+            "0123456789",
+            Some(ChunkError::TooLarge),
+        ),
+        (
+            "ffffffffffffffff\r\n",
+            0,
+            "",
+            18,
+            "",
+            Some(ChunkError::TooLarge),
+        ),
     ] {
-        let bytes = padded(rt.alloc(), front, count)?;
-        let (_, taken) = read_cut(rt.alloc(), 0, bytes.as_slice(), b"");
-        assert_eq!(rt; taken, want, "{count}");
+        let bytes = repeated(rt.alloc(), front.as_bytes(), b"a", count, back.as_bytes())?;
+        let cut = wrong_cut(rt.alloc(), bytes.as_slice(), end, body.as_bytes(), refusal);
+        assert_eq!(rt; cut, None, "{front}");
+        let byte = wrong_byte(rt.alloc(), bytes.as_slice(), end, refusal);
+        assert_eq!(rt; byte, None, "{front}");
     }
     Ok(())
 }
 
 #[test]
 fn pieces_of_one_body(rt: HostRuntime) -> Result<(), Fail> {
-    let mut pieces = Vec::new(rt.alloc());
-    for piece in ["3\r", "\nab", "c\r\n0\r\n\r\nGET"] {
-        pieces.push(Vec::from_slice(rt.alloc(), piece.as_bytes())?)?;
-    }
+    let pieces = [
+        Vec::from_slice(rt.alloc(), b"3\r")?,
+        Vec::from_slice(rt.alloc(), b"\nab")?,
+        Vec::from_slice(rt.alloc(), b"c\r\n0\r\n\r\nGET")?,
+    ];
     let mut out = Vec::new(rt.alloc());
-    let mut chunks = Chunks::new(3);
-    let mut fed = Fed {
-        taken: 0,
-        done: false,
-    };
-    for piece in &pieces {
-        fed = chunks.feed(piece.as_slice(), &mut out)?;
-    }
-    assert_eq!(rt; (fed.taken, fed.done), (8, true));
+    let fed = Chunks::new(3).feed_all(&pieces, &mut out)?;
+    // What was sent is read, of all bytes but those behind, and is the same in one piece.
+    sent_is_read();
+    only_sent_is_read();
+    message_takes();
+    assert_eq!(rt; (fed.taken, fed.done), (13, true));
     assert_eq!(rt; out.as_slice(), b"abc".as_slice());
+    front_is_one();
+    let whole = Chunks::new(3).feed(b"3\r\nabc\r\n0\r\n\r\nGET", &mut out)?;
+    assert_eq!(rt; whole, fed);
+    // Bytes that are refused are so for what they are.
+    refused_for_its_bytes();
     assert_eq!(rt;
-        chunks.feed(b"GET", &mut out)?,
-        Fed {
-            taken: 0,
-            done: true
-        }
-    );
-    assert_eq!(rt;
-        chunks.feed_all(&[], &mut out)?,
-        Fed {
-            taken: 0,
-            done: true
-        }
+        Chunks::new(2).feed_all(&pieces, &mut out),
+        Err(ChunkError::TooLarge)
     );
     Ok(())
 }

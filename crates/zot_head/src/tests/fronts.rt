@@ -1,56 +1,52 @@
-use crate::{
-    Found, find_head, front_is_one, front_stays, head_ends_alone, head_ends_as_read, message_takes,
-    only_sent_is_read, refused_for_its_bytes, sent_is_read,
-};
-use std::alloc::{AllocError, Global};
+use super::{repeated, told_otherwise};
+use crate::{Found, front_stays, head_ends_alone};
 use std::test::Fail;
 
-// A head for GET /v2/ with a field of so many bytes.
-fn long_head(alloc: Global, count: u16) -> Result<Vec<u8>, AllocError> {
-    let mut bytes = Vec::from_slice(alloc, b"GET /v2/ HTTP/1.1\r\nX:")?;
-    for _ in 0..count {
-        bytes.push(b'a')?;
-    }
-    bytes.extend_from_slice(b"\r\n\r\n")?;
-    Ok(bytes)
-}
-
 #[test]
-fn heads_end_cut_anywhere(rt: HostRuntime) {
-    for (bytes, end) in [
-        (b"GET / HTTP/1.1\r\n\r\n".as_slice(), 18),
-        (b"GET / HTTP/1.1\n\r\nGET".as_slice(), 17),
-        (b"\r\n\nGET / HTTP/1.1\r\n\nGET".as_slice(), 20),
-        (b"a\r\r\nb\n\r\n\n".as_slice(), 8),
+fn heads_end_cut_anywhere(rt: HostRuntime) -> Result<(), Fail> {
+    for (front, part, count, back, end, found) in [
+        ("GET / HTTP/1.1\r\n\r\n", "", 0, "", 18, Found::Head(18)),
+        ("GET / HTTP/1.1\n\r\nGET", "", 0, "", 17, Found::Head(17)),
+        (
+            "\r\n\nGET / HTTP/1.1\r\n\nGET",
+            "",
+            0,
+            "",
+            20,
+            Found::Head(20),
+        ),
+        ("a\r\r\nb\n\r\n\n", "", 0, "", 8, Found::Head(8)),
+        // A head of 16,384 bytes, one of 16,385, and empty lines alone.
+        (
+            "GET /v2/ HTTP/1.1\r\nX:",
+            "a",
+            16_359,
+            "\r\n\r\n",
+            16_384,
+            Found::Head(16_384),
+        ),
+        (
+            "GET /v2/ HTTP/1.1\r\nX:",
+            "a",
+            16_360,
+            "\r\n\r\n",
+            16_384,
+            Found::TooLong,
+        ),
+        ("", "\n", 16_384, "", 16_384, Found::TooLong),
     ] {
-        for cut in 0..bytes.len() {
-            let want = if cut < end {
-                Found::More
-            } else {
-                Found::Head(end)
-            };
-            assert_eq!(rt; find_head(&bytes[..cut]), want, "{cut}");
-        }
-        assert_eq!(rt; find_head(bytes), Found::Head(end));
+        let bytes = repeated(
+            rt.alloc(),
+            front.as_bytes(),
+            part.as_bytes(),
+            count,
+            back.as_bytes(),
+        )?;
+        let otherwise = told_otherwise(bytes.as_slice(), end, found);
+        assert_eq!(rt; otherwise, None, "{front} {count}");
     }
+    // The same with bytes behind, and without them.
     front_stays();
-    message_takes();
-    front_is_one();
     head_ends_alone();
-    head_ends_as_read();
-    sent_is_read();
-    only_sent_is_read();
-    refused_for_its_bytes();
-}
-
-#[test]
-fn heads_of_most_bytes(rt: HostRuntime) -> Result<(), Fail> {
-    let longest = long_head(rt.alloc(), 16_384 - 25)?;
-    assert_eq!(rt; longest.len(), 16_384);
-    assert_eq!(rt; find_head(longest.as_slice()), Found::Head(16_384));
-    let longer = long_head(rt.alloc(), 16_385 - 25)?;
-    assert_eq!(rt; find_head(longer.as_slice()), Found::TooLong);
-    let blank = vec![in rt.alloc(); b'\n'; 16_384]?;
-    assert_eq!(rt; find_head(blank.as_slice()), Found::TooLong);
     Ok(())
 }

@@ -2,7 +2,7 @@ use Rattle.std.proofs.lemmas.Result.{IfOk-weaker}
 use Rattle.httparse.specs.Grammar.{RequestHead}
 use Rattle.httparse.specs.Spans.{IsRequestAt}
 use Rattle.zot_head.specs.Front.{HasParts, IsHead}
-use Rattle.zot_head.proofs.ReadLemmas.{not_crowded, is_head, is_no_head, no_head-short, no_head-overflow}
+use Rattle.zot_head.proofs.ReadLemmas.{not_crowded, whole_request, is_head, is_no_head, no_head-short, no_head-overflow}
 use Rattle.zot_head.proofs.read.read_head.Goals as goal
 
 pub returns-then-request-bytes-clause-bad : goal.returns-then-request-bytes-clause-bad
@@ -26,6 +26,11 @@ returns-else-request-bytes-clause-bad c =
     λ e.
     let found = c.head_of.ensures.bad e in
     is_no_head c.args.bytes.now c.parse_request.new.headers c.in-Ok-Complete.request found.0 few c.if-request-bytes.false found.1 found.2
+
+pub returns-else-request-bytes-clause-no_memory : goal.returns-else-request-bytes-clause-no_memory
+returns-else-request-bytes-clause-no_memory c =
+    let found = rw c.in-Ok-Complete.field-0-is at c.in-Ok-Complete.ensures.complete in
+    λ e. (found.0, whole_request c.args.bytes.now c.parse_request.new.headers c.in-Ok-Complete.request found.0 c.if-request-bytes.false found.1)
 
 pub returns-in-Err-clause-bad : goal.returns-in-Err-clause-bad
 returns-in-Err-clause-bad c =
