@@ -1,0 +1,24 @@
+//! Names of repositories, tags, ids of uploads, and globs over names.
+#![tactic(auto)]
+
+mod component;
+mod glob;
+mod laws;
+mod name_error;
+mod parts;
+mod passed;
+mod piece;
+mod reached;
+mod repo_name;
+mod tag;
+#[cfg(test)]
+mod tests;
+mod text;
+mod upload_id;
+
+pub use crate::glob::glob_matches;
+pub use crate::laws::{bytes_of_names, bytes_of_tags, parts_of_names};
+pub use crate::name_error::NameError;
+pub use crate::repo_name::{RepoName, is_name};
+pub use crate::tag::{Tag, is_tag};
+pub use crate::upload_id::UploadId;
