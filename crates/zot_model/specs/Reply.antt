@@ -1,17 +1,19 @@
--- Refusals and their statuses.
+-- Refusals.
 use Rattle.std.specs.Prelude.{ℕ}
 use Rattle.zot_model.specs.declared.code.Code.{Code}
-use Rattle.zot_model.specs.declared.code.Code.TheVariants.{BlobUnknown, DigestInvalid, NoMemory, NotBuilt}
+use Rattle.zot_model.specs.declared.code.Code.TheVariants.{NoMemory, NotBuilt}
+use Rattle.zot_model.specs.declared.detail.Detail.TheVariants as details
 use Rattle.zot_model.specs.declared.reply.Reply.{Reply}
 use Rattle.zot_model.specs.declared.reply.Reply.TheVariants.{Refused}
 
--- the status of a refusal (RFC 9110, section 15)
-abbrev pub status_of : Code → ℕ
-status_of BlobUnknown = 404
-status_of DigestInvalid = 400
-status_of NoMemory = 503
-status_of NotBuilt = 501
+-- the refusal with a status and a code, which says nothing beside them
+abbrev pub refusal : ℕ → Code → Reply
+refusal status code = Refused status code details.None
 
--- the refusal with a code
-abbrev pub refusal : Code → Reply
-refusal code = Refused (status_of code) code
+-- memory ran out (RFC 9110, section 15.6.4)
+abbrev pub no_memory : Reply
+no_memory = refusal 503 NoMemory
+
+-- a request that isn't built yet (RFC 9110, section 15.6.2)
+abbrev pub not_built : Reply
+not_built = refusal 501 NotBuilt

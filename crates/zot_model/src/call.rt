@@ -1,11 +1,64 @@
-//! What is asked of a repository.
-use zot_digest::{Bytes, Digest};
+//! What is asked of a registry.
+use crate::mount::Mount;
+use crate::span::Span;
+use zot_digest::{Bytes, Digest, Words};
+use zot_media::{Media, Reference};
+use zot_names::UploadId;
 
-/// What a request asks of a repository.
+/// What a request asks for (OCI Distribution Specification, "Endpoints"). All but `Base` are asked of a repository.
 #[derive(Debug, Drop, PartialEq, Eq)]
 pub enum Call {
-    /// The bytes of a blob (OCI Distribution Specification, "Pulling blobs").
+    /// Whether this is such a registry.
+    Base,
+    /// A blob.
     GetBlob(Digest),
-    /// A blob stored with one request, its digest and its bytes (OCI Distribution Specification, "Single POST").
-    Post { digest: Digest, body: Bytes },
+    /// A blob's size.
+    HeadBlob(Digest),
+    /// That a blob goes.
+    DeleteBlob(Digest),
+    /// A blob, taken over from another repository, or given whole with its digest; or else a new upload.
+    Post {
+        mount: Option<Mount>,
+        digest: Option<Digest>,
+        body: Bytes,
+    },
+    /// More bytes of an upload.
+    Patch {
+        id: Option<UploadId>,
+        range: Option<Span>,
+        body: Bytes,
+    },
+    /// The last bytes of an upload, and the digest of all.
+    Finish {
+        id: Option<UploadId>,
+        range: Option<Span>,
+        digest: Digest,
+        body: Bytes,
+    },
+    /// How far an upload has come. An id of none is a text that isn't one, here and in the two calls above.
+    UploadState {
+        id: Option<UploadId>,
+    },
+    /// A manifest to be stored. Media of none are a text that isn't one of the four, or no text at all.
+    PutManifest {
+        reference: Reference,
+        media: Option<Media>,
+        body: Bytes,
+    },
+    /// A manifest.
+    GetManifest(Reference),
+    /// A manifest's media and size.
+    HeadManifest(Reference),
+    /// That a manifest or a tag goes.
+    DeleteManifest(Reference),
+    /// The tags behind `last`, of which at most n.
+    Tags {
+        n: Option<u64>,
+        last: Option<Words>,
+    },
+    /// The manifests whose subject the digest is, of that artifact type.
+    Referrers {
+        digest: Digest,
+        filter: Option<Words>,
+    },
 }

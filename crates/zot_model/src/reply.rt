@@ -3,30 +3,83 @@ ghost use Rattle.std.specs.Prelude.{◌≡◌};
 ghost use Rattle.zot_model.specs.Reply.{refusal};
 
 use crate::code::Code;
+use crate::detail::Detail;
 use zot_digest::{Bytes, Digest};
+use zot_media::Media;
+use zot_names::{Tag, TagList, UploadId};
 
 /// The answer to a request.
 #[derive(Debug, Drop, PartialEq, Eq)]
 pub enum Reply {
+    /// This is such a registry: 200.
+    Base,
     /// A blob and its bytes: 200.
-    Blob { digest: Digest, bytes: Bytes },
+    Blob {
+        digest: Digest,
+        bytes: Bytes,
+    },
+    /// A blob's size: 200.
+    BlobHead {
+        digest: Digest,
+        size: u64,
+    },
     /// A blob was stored: 201.
-    BlobMade { digest: Digest },
+    BlobMade {
+        digest: Digest,
+    },
+    /// An upload and how many bytes it has: 202, or 204 where only that was asked.
+    Session {
+        id: UploadId,
+        length: u64,
+        status: u16,
+    },
+    /// A manifest was stored: 201.
+    ManifestMade {
+        digest: Digest,
+        subject: Option<Digest>,
+    },
+    /// A manifest and its bytes: 200.
+    Manifest {
+        digest: Digest,
+        media: Media,
+        bytes: Bytes,
+    },
+    /// A manifest's media and size: 200.
+    ManifestHead {
+        digest: Digest,
+        media: Media,
+        size: u64,
+    },
+    /// A page of tags, the last of them where more follow, and the most that were asked for: 200.
+    Tags {
+        tags: TagList,
+        next: Option<Tag>,
+        n: u64,
+    },
+    /// The text of an index of manifests with one subject, and whether they were filtered: 200.
+    Referrers {
+        text: Bytes,
+        filtered: bool,
+    },
+    /// It goes: 202.
+    Deleted,
     /// The request was refused with this status.
-    Refused { status: u16, code: Code },
+    Refused {
+        status: u16,
+        code: Code,
+        detail: Detail,
+    },
 }
 
 impl Reply {
-    /// The refusal with the status that goes with the code.
-    pub fn refused(code: Code) -> Self
-        ensures { result ≡ refusal code }
+    /// The refusal with a status and a code, which says nothing beside them.
+    pub fn refused(status: u16, code: Code) -> Self
+        ensures { result ≡ refusal status code }
     {
-        let status = match code {
-            Code::BlobUnknown => 404,
-            Code::DigestInvalid => 400,
-            Code::NoMemory => 503,
-            Code::NotBuilt => 501,
-        };
-        Reply::Refused { status, code }
+        Reply::Refused {
+            status,
+            code,
+            detail: Detail::None,
+        }
     }
 }

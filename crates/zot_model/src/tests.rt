@@ -1,67 +1,77 @@
-//! The names that are none, and each public call once.
-use crate::{Call, Code, Reply, RepoName, Request, RowCall, RowReply, Stored, is_name};
-use std::alloc::Global;
+//! Each public call once, and values that differ.
+use crate::{Call, Code, Detail, Methods, Mount, Reply, Request, RowCall, RowReply, Span, Stored};
 use std::test::Fail;
 use zot_digest::{Bytes, digest_of};
+use zot_media::Reference;
+use zot_names::{RepoName, TagList, UploadId};
 
 #[test]
-fn names(rt: HostRuntime) -> Result<(), Fail> {
+fn requests(rt: HostRuntime) -> Result<(), Fail> {
     let alloc = rt.alloc();
-    let long = vec![in alloc; b'a'; 255]?;
-    let longer = vec![in alloc; b'a'; 256]?;
-    for (text, want) in [
-        (b"a".as_slice(), true),
-        (b"0az9".as_slice(), true),
-        (long.as_slice(), true),
-        (longer.as_slice(), false),
-        (b"".as_slice(), false),
-        (b"A".as_slice(), false),
-        (b"a/b".as_slice(), false),
-        (b"a-b".as_slice(), false),
-        (b"a:".as_slice(), false),
-        (b"a`{".as_slice(), false),
-    ] {
-        assert_eq!(rt; is_name(text), want);
-    }
+    let digest = digest_of(b"{}");
+    let call = RowCall::Ask(Request {
+        name: Some(RepoName::read(alloc, "a/b")?),
+        call: Call::Post {
+            mount: Some(Mount { digest, from: None }),
+            digest: Some(digest),
+            body: Bytes::new(Vec::from_slice(alloc, b"{}")?),
+        },
+        hop: false,
+    });
+    assert!(rt; !call.request().hop);
+    assert!(rt;
+        call.request().call
+            == Call::Post {
+                mount: Some(Mount { digest, from: None }),
+                digest: Some(digest),
+                body: Bytes::new(Vec::from_slice(alloc, b"{}")?)
+            }
+    );
+    assert!(rt;
+        call != RowCall::Ask(Request {
+            name: None,
+            call: Call::Base,
+            hop: false
+        })
+    );
+    let id = Some(UploadId::new(1));
+    let range = Some(Span { start: 0, end: 1 });
+    let body = Bytes::new(Vec::from_slice(alloc, b"ab")?);
+    assert!(rt; Call::Patch { id, range, body } != Call::UploadState { id });
+    assert!(rt;
+        Call::GetManifest(Reference::Digest(digest))
+            != Call::HeadManifest(Reference::Digest(digest))
+    );
     Ok(())
 }
 
 #[test]
-fn values(rt: HostRuntime) -> Result<(), Fail> {
+fn replies(rt: HostRuntime) -> Result<(), Fail> {
     let alloc = rt.alloc();
-    let text = Bytes::new(Vec::from_slice(alloc, b"a")?);
-    assert!(rt; is_name(text.as_slice()));
-    let name = RepoName::new(text);
-    let copy = name.copy(alloc)?;
-    assert!(rt; copy == name && copy <= name);
-    assert_eq!(rt; name.as_slice(), b"a".as_slice());
-    let digest = digest_of(b"{}");
-    let body = Bytes::new(Vec::from_slice(alloc, b"{}")?);
-    let call = RowCall::Ask(Request {
-        name,
-        call: Call::Post { digest, body },
-    });
+    let reply = RowReply::Reply(Reply::refused(404, Code::BlobUnknown)).into_reply();
     assert!(rt;
-        call != RowCall::Ask(Request {
-            name: copy,
-            call: Call::GetBlob(digest)
-        })
-    );
-    for (code, status) in [
-        (Code::BlobUnknown, 404),
-        (Code::DigestInvalid, 400),
-        (Code::NoMemory, 503),
-        (Code::NotBuilt, 501),
-    ] {
-        let reply = RowReply::Reply(Reply::refused(code)).into_reply();
-        assert!(rt; reply == Reply::Refused { status, code });
-    }
-    assert!(rt;
-        call.request().call
-            == Call::Post {
-                digest,
-                body: Bytes::new(Vec::from_slice(alloc, b"{}")?)
+        reply
+            == Reply::Refused {
+                status: 404,
+                code: Code::BlobUnknown,
+                detail: Detail::None
             }
+    );
+    assert!(rt;
+        reply
+            != Reply::Refused {
+                status: 404,
+                code: Code::BlobUnknown,
+                detail: Detail::Allow(Methods::Read)
+            }
+    );
+    let tags = TagList::new(Vec::new(alloc));
+    assert!(rt;
+        Reply::Tags {
+            tags,
+            next: None,
+            n: 0
+        } != Reply::Deleted
     );
     let stored = Stored {
         bytes: Bytes::new(Vec::new(alloc)),

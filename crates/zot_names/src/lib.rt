@@ -11,6 +11,7 @@ mod piece;
 mod reached;
 mod repo_name;
 mod tag;
+mod tag_list;
 #[cfg(test)]
 mod tests;
 mod text;
@@ -21,4 +22,5 @@ pub use crate::laws::{bytes_of_names, bytes_of_tags, parts_of_names};
 pub use crate::name_error::NameError;
 pub use crate::repo_name::{RepoName, is_name};
 pub use crate::tag::{Tag, is_tag};
+pub use crate::tag_list::TagList;
 pub use crate::upload_id::UploadId;

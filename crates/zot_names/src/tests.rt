@@ -4,8 +4,8 @@ ghost use Rattle.std.specs.Cmp.Lexicographic.{slice_cmp};
 ghost use Rattle.std.specs.Ordering.{nat_cmp};
 
 use crate::{
-    NameError, RepoName, Tag, UploadId, bytes_of_names, bytes_of_tags, glob_matches, is_name,
-    is_tag, parts_of_names,
+    NameError, RepoName, Tag, TagList, UploadId, bytes_of_names, bytes_of_tags, glob_matches,
+    is_name, is_tag, parts_of_names,
 };
 use std::alloc::Global;
 use std::cmp::Ordering;
@@ -180,4 +180,22 @@ fn globs(rt: HostRuntime) {
     }
     assert!(rt; glob_matches("", "") && glob_matches("*", "") && glob_matches("**", ""));
     assert!(rt; !glob_matches("", "a") && !glob_matches("a", ""));
+}
+
+#[test]
+fn lists_of_tags(rt: HostRuntime) -> Result<(), Fail> {
+    let alloc = rt.alloc();
+    let mut items = Vec::new(alloc);
+    items.push(Tag::read(alloc, "b")?)?;
+    items.push(Tag::read(alloc, "a")?)?;
+    let list = TagList::new(items);
+    assert!(rt; list != TagList::new(Vec::new(alloc)));
+    assert_eq!(rt; list.as_slice().len(), 2);
+    let items = list.into_vec();
+    let texts = match items.as_slice() {
+        [first, second] => first.as_str() == "b" && second.as_str() == "a",
+        _ => false,
+    };
+    assert!(rt; texts);
+    Ok(())
 }

@@ -10,11 +10,12 @@ use Rattle.std.proofs.Math.Seq.{take-append-add}
 use Rattle.memchr.specs.Find.{FindsNeedle}
 use Rattle.memchr.proofs.lemmas.MatchLemmas.{OccursAt-from_part, OccursAt-part}
 use Rattle.zot_digest.specs.Digest.{digest_named}
-use Rattle.zot_model.specs.declared.code.Code.TheVariants.{NotBuilt}
-use Rattle.zot_model.specs.Reply.{refusal}
+use Rattle.zot_model.specs.declared.code.Code.TheVariants.{DigestInvalid}
+use Rattle.zot_model.specs.Reply.{not_built, refusal}
 use Rattle.zot_session.specs.declared.front.Front.{Front}
 use Rattle.zot_session.specs.declared.front.Front.TheVariants.{Closing, Partial, Whole}
 use Rattle.zot_session.specs.declared.front.Message.{Message}
+use Rattle.zot_session.specs.Spelling.{HasStatus}
 use Rattle.zot_session.specs.Front.{Messages, formed, framed, front_of, front_within, head_end, head_len, head_limit, post_message, get_message, IsSpellable}
 use Rattle.zot_session.specs.Head.{Form, form_of, gets, posts}
 
@@ -198,8 +199,8 @@ framed_size : (limit : ℕ) (found : Option ℕ) (bytes : List ℕ) (message : M
     → (0 < size) × (size ≤ length bytes)
 framed_size limit None bytes message size none h =
     elim (cases_lt (length bytes) limit) [
-      | inl short ↦ cc (h, chosen {A = Front} (nat_lt (length bytes) limit) Partial (Closing (refusal NotBuilt)) ((Decides-ltb (length bytes) limit).1 short))
-      | inr enough ↦ cc (h, other {A = Front} (nat_lt (length bytes) limit) Partial (Closing (refusal NotBuilt)) (lt_false (length bytes) limit enough))
+      | inl short ↦ cc (h, chosen {A = Front} (nat_lt (length bytes) limit) Partial (Closing not_built) ((Decides-ltb (length bytes) limit).1 short))
+      | inr enough ↦ cc (h, other {A = Front} (nat_lt (length bytes) limit) Partial (Closing not_built) (lt_false (length bytes) limit enough))
     ]
 framed_size limit (Some n) bytes message size some h =
     let bounds = head_len-bounds (take limit bytes) n some in
@@ -274,18 +275,18 @@ if_ok_same (Err x) a b e h = tt
 
 -- ---- the refusals at the front can be spelled
 
-built_status : (100 ≤ 501) × (501 < 1000)
-built_status = (lit≤ tt, lit≤ tt)
+built_status : HasStatus not_built
+built_status = ((lit≤ tt, lit≤ tt), refl)
 
-digest_status : (100 ≤ 400) × (400 < 1000)
-digest_status = (lit≤ tt, lit≤ tt)
+digest_status : HasStatus (refusal 400 DigestInvalid)
+digest_status = ((lit≤ tt, lit≤ tt), refl)
 
 get_spellable : (name : List ℕ) (digest : Option (List ℕ)) (n : ℕ) → IsSpellable (Whole (get_message name digest) n)
-get_spellable name (Some digest) n = tt
+get_spellable name (Some digest) n = record { named = refl; read = tt }
 get_spellable name None n = digest_status
 
 post_spellable : (name : List ℕ) (digest : Option (List ℕ)) (body : List ℕ) (n : ℕ) → IsSpellable (Whole (post_message name digest body) n)
-post_spellable name (Some digest) body n = tt
+post_spellable name (Some digest) body n = record { named = refl; read = tt }
 post_spellable name None body n = digest_status
 
 either_spellable : (b : Bool) (x y : Front) → IsSpellable x → IsSpellable y → IsSpellable (if b then x else y)
@@ -300,7 +301,7 @@ formed_spellable (Some (posts name text size)) n behind =
     (post_spellable name (digest_named text) (take size behind) (n + size))
 
 framed_spellable : (limit : ℕ) (found : Option ℕ) (bytes : List ℕ) → IsSpellable (framed limit found bytes)
-framed_spellable limit None bytes = either_spellable (nat_lt (length bytes) limit) Partial (Closing (refusal NotBuilt)) tt built_status
+framed_spellable limit None bytes = either_spellable (nat_lt (length bytes) limit) Partial (Closing not_built) tt built_status
 framed_spellable limit (Some n) bytes = formed_spellable (form_of (take n bytes)) n (drop n bytes)
 
 front_spellable : (bytes : List ℕ) → IsSpellable (front_of bytes)

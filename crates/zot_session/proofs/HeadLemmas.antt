@@ -8,25 +8,26 @@ use Rattle.std.proofs.lemmas.Bool.Decides.{Decides-ltb, same_from_decides}
 use Rattle.std.proofs.lemmas.List.Folds.{list_all_at}
 use Rattle.std.proofs.lemmas.List.Sums.{AllPass-from_list_all, fold_more, list_all-from_AllPass}
 use Rattle.std.proofs.Math.Nat.{pow-le-pow_right, pow-succ'}
-use Rattle.zot_model.specs.Name.{IsName, is_name_byte}
+use Rattle.zot_names.specs.Name.{is_alphanumeric}
+use Rattle.zot_session.specs.PlainName.{IsPlainName}
 use Rattle.zot_session.specs.Head.{body_limit, decimal_value, is_decimal, length_of, length_passes, name_passes}
 
 -- the test of a name decides whether it is one
-name_decides : (text : List ℕ) → Decides (name_passes text) (IsName text)
+name_decides : (text : List ℕ) → Decides (name_passes text) (IsPlainName text)
 unfolding name_passes
 name_decides text = (
   λ h.
-      let all = and_parts (nat_lt 0 (length text) && nat_le (length text) 255) (list_all is_name_byte text) h in
+      let all = and_parts (nat_lt 0 (length text) && nat_le (length text) 255) (list_all is_alphanumeric text) h in
       let size = and_parts (nat_lt 0 (length text)) (nat_le (length text) 255) all.0 in
       record {
         nonempty = (Decides-ltb 0 (length text)).0 size.0;
         short = leb-true (length text) 255 size.1;
-        bytes = AllPass-from_list_all is_name_byte text all.1;
+        bytes = AllPass-from_list_all is_alphanumeric text all.1;
       },
-  λ is. rw ((Decides-ltb 0 (length text)).1 is.nonempty, le-leb (length text) 255 is.short, list_all-from_AllPass is_name_byte text is.bytes) refl,
+  λ is. rw ((Decides-ltb 0 (length text)).1 is.nonempty, le-leb (length text) 255 is.short, list_all-from_AllPass is_alphanumeric text is.bytes) refl,
 )
 
-pub same_name_test : (r : Bool) (text : List ℕ) → (IsTrue r ↔ IsName text) → r ≡ name_passes text
+pub same_name_test : (r : Bool) (text : List ℕ) → (IsTrue r ↔ IsPlainName text) → r ≡ name_passes text
 same_name_test r text h = same_from_decides r (name_passes text) (h.0, h.1) (name_decides text)
 
 -- a test that fails somewhere doesn't hold of all
@@ -87,5 +88,5 @@ unfolding length_of body_limit
 length_over digits size is over = dropped (length_passes digits) _ (decimal_value digits) (lt-leb (decimal_value digits) 67108864 (omega (arith, is)))
 
 -- what passes as a name is one
-pub is_name_from_test : (text : List ℕ) → IsTrue (name_passes text) → IsName text
+pub is_name_from_test : (text : List ℕ) → IsTrue (name_passes text) → IsPlainName text
 is_name_from_test text h = (name_decides text).0 h

@@ -6,3 +6,4 @@ pub mod OutsideLemmas
 mod TurnLemmas
 pub mod SessionLemmas
 pub mod EndLemmas
+pub mod NameLemmas

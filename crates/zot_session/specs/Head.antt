@@ -2,7 +2,7 @@
 use Rattle.std.specs.Prelude.{ℕ, ◌+◌, ◌-◌, ◌*◌, ◌==◌, ◌&&◌, ◌||◌, nat_le, nat_lt, Bool, if◌then◌else◌, List, [], ◌∷◌, length, take, drop, Option, Some, None, option_and_then, codes, fold}
 use Rattle.std.specs.List.{list_all, list_any, position}
 use Rattle.std.specs.Str.{bytes_eq}
-use Rattle.zot_model.specs.Name.{is_name_byte}
+use Rattle.zot_names.specs.Name.{is_alphanumeric}
 
 -- what a head asks: a POST of a blob of this length, or a GET of a blob, by a repository's name and the text of a digest
 pub data Form : Type 0 where
@@ -27,11 +27,11 @@ cut_at c bytes = position (λ b. b == c) bytes >>= (λ i. Some (take i bytes, dr
 
 -- a repository's name: 1 to 255 lower-case letters and digits
 unfoldable pub name_passes : List ℕ → Bool
-name_passes text = nat_lt 0 (length text) && nat_le (length text) 255 && list_all is_name_byte text
+name_passes text = nat_lt 0 (length text) && nat_le (length text) 255 && list_all is_alphanumeric text
 
 -- a lower-case letter, a digit or a colon
 abbrev pub is_digest_byte : ℕ → Bool
-is_digest_byte c = is_name_byte c || (c == 58)
+is_digest_byte c = is_alphanumeric c || (c == 58)
 
 -- what stands where a digest is wanted: at least one such byte
 unfoldable pub digest_passes : List ℕ → Bool

@@ -9,3 +9,4 @@ pub mod Session
 pub mod Spelling
 pub mod Turn
 pub mod Waiting
+pub mod PlainName

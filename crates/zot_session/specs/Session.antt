@@ -1,5 +1,5 @@
 -- A session: the messages of a connection with their replies, what is written, and how it ends.
-use Rattle.std.specs.Prelude.{◌≡◌, ℕ, ◌<◌, ◌≤◌, ◌==◌, ◌&&◌, Bool, true, false, not, if◌then◌else◌, List, [], ◌∷◌, ◌++◌, length, map, Option, ◌⊎◌}
+use Rattle.std.specs.Prelude.{◌≡◌, ℕ, ◌<◌, ◌≤◌, ◌==◌, ◌&&◌, Bool, true, false, not, if◌then◌else◌, List, [], ◌∷◌, ◌++◌, length, map, Option, unwrap_or, ◌⊎◌}
 use Rattle.zot_model.specs.declared.reply.Reply.{Reply}
 use Rattle.zot_model.specs.declared.request.Request.{Request}
 use Rattle.zot_session.specs.declared.end.End.{End}
@@ -22,9 +22,13 @@ abbrev pub message_of : Exchange → Message
 message_of (answered request reply) = Asks request
 message_of (declined reply) = Refuses reply
 
+-- the name of the repository that a request is on
+abbrev pub name_of : Request → List ℕ
+name_of request = unwrap_or request.name []
+
 -- the bytes of the reply
 abbrev pub spelled : Exchange → List ℕ
-spelled (answered request reply) = spelling request.name reply false
+spelled (answered request reply) = spelling (name_of request) reply false
 spelled (declined reply) = spelling [] reply false
 
 -- the bytes of all replies, in order

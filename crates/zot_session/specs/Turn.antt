@@ -8,16 +8,16 @@ use Rattle.zot_session.specs.declared.front.Front.TheVariants.{Closing, Partial,
 use Rattle.zot_session.specs.declared.front.Message.{Message}
 use Rattle.zot_session.specs.declared.front.Message.TheVariants.{Asks, Refuses}
 use Rattle.zot_session.specs.declared.sending.Sent.{Sent}
-use Rattle.zot_session.specs.Front.{front_of}
+use Rattle.zot_session.specs.Front.{IsAsked, front_of}
 use Rattle.zot_session.specs.Outside.{Appends, IsOver, Rose, Takes}
 use Rattle.zot_session.specs.Sending.{Sends}
 use Rattle.zot_session.specs.Session.{Conducts, Exchange, WritesPart, is_blank, message_of, spelled}
 use Rattle.zot_session.specs.Spelling.{HasStatus, spelling, status_in}
 use Rattle.zot_session.specs.Waiting.{TakesPiece, Waiting, budget}
 
--- a refusal in a message has a status that can be spelled
+-- a request is one of the two heads', and a refusal in a message has a status that can be spelled
 abbrev pub CanReply : Message → Type 0
-CanReply (Asks request) = Unit {0}
+CanReply (Asks request) = IsAsked request
 CanReply (Refuses reply) = HasStatus reply
 
 -- a message was answered, and so much of its reply was written

@@ -1,5 +1,5 @@
 //! What stands at the front of the bytes of a connection.
-ghost use Rattle.std.specs.Prelude.{◌≡◌, ◌≤◌, ◌<◌, ◌+◌, ◌^◌, length, take, IfOk, IfSome, IsTrue, Some, None};
+ghost use Rattle.std.specs.Prelude.{◌≡◌, ◌≤◌, ◌<◌, ◌+◌, ◌^◌, length, take, IfOk, IfSome, IsTrue, Some, None, false};
 ghost use Rattle.zot_digest.specs.Digest.{digest_named};
 ghost use Rattle.zot_session.specs.declared.front.Message.TheVariants as messages;
 ghost use Rattle.zot_session.specs.Front.{formed, framed, front_of, get_message, head_len, head_limit, post_message, IsSpellable};
@@ -8,8 +8,10 @@ ghost use Rattle.zot_session.specs.Head.{name_passes, posts};
 use crate::head::{Head, read_head};
 use memchr::memmem;
 use std::alloc::{AllocError, Global};
+use std::str;
 use zot_digest::{Bytes, read_digest};
-use zot_model::{Call, Code, Reply, RepoName, Request};
+use zot_model::{Call, Code, Reply, Request};
+use zot_names::RepoName;
 
 /// The longest head that is looked for, in bytes.
 pub const HEAD_LIMIT: usize = 16_384;
@@ -52,7 +54,7 @@ fn headless(bytes: &[u8]) -> Front
     if bytes.len() < HEAD_LIMIT {
         Front::Partial
     } else {
-        Front::Closing(Reply::refused(Code::NotBuilt))
+        Front::Closing(Reply::refused(501, Code::NotBuilt))
     }
 }
 
@@ -77,7 +79,7 @@ fn with_head(alloc: Global, bytes: &[u8], n: usize) -> Result<Front, AllocError>
     match read_head(head) {
         Some(Head::Get { name, digest }) => Ok(Front::Whole(get(alloc, name, digest)?, n)),
         Some(Head::Post { name, digest, size }) => posted(alloc, name, digest, size, n, behind),
-        None => Ok(Front::Closing(Reply::refused(Code::NotBuilt))),
+        None => Ok(Front::Closing(Reply::refused(501, Code::NotBuilt))),
     }
 }
 
@@ -108,7 +110,7 @@ fn get(alloc: Global, name: &[u8], digest: &[u8]) -> Result<Message, AllocError>
 {
     match read_digest(digest) {
         Ok(digest) => asks(alloc, name, Call::GetBlob(digest)),
-        Err(_) => Ok(Message::Refuses(Reply::refused(Code::DigestInvalid))),
+        Err(_) => Ok(Message::Refuses(Reply::refused(400, Code::DigestInvalid))),
     }
 }
 
@@ -120,17 +122,38 @@ fn post(alloc: Global, name: &[u8], digest: &[u8], body: &[u8]) -> Result<Messag
     match read_digest(digest) {
         Ok(digest) => {
             let body = Bytes::new(Vec::from_slice(alloc, body)?);
-            asks(alloc, name, Call::Post { digest, body })
+            let call = Call::Post {
+                mount: None,
+                digest: Some(digest),
+                body,
+            };
+            asks(alloc, name, call)
         }
-        Err(_) => Ok(Message::Refuses(Reply::refused(Code::DigestInvalid))),
+        Err(_) => Ok(Message::Refuses(Reply::refused(400, Code::DigestInvalid))),
     }
 }
 
 // A request on the repository of a name.
 fn asks(alloc: Global, name: &[u8], call: Call) -> Result<Message, AllocError>
     requires { IsTrue (name_passes name.now) }
-    ensures { IfOk result (λ message. message ≡ messages.Asks (record { name = name.now; call = call })) }
+    ensures { IfOk result (λ message. message ≡ messages.Asks (record { name = Some name.now; call = call; hop = false })) }
 {
-    let name = RepoName::new(Bytes::new(Vec::from_slice(alloc, name)?));
-    Ok(Message::Asks(Request { name, call }))
+    let text = text_of(name);
+    let name = Some(RepoName::new(String::from_str(alloc, text)?));
+    Ok(Message::Asks(Request {
+        name,
+        call,
+        hop: false,
+    }))
+}
+
+// The text of a name.
+fn text_of(name: &[u8]) -> &str
+    requires { IsTrue (name_passes name.now) }
+    ensures { result.now ≡ name.now }
+{
+    match str::from_utf8(name) {
+        Ok(text) => text,
+        Err(_) => unreachable!(),
+    }
 }

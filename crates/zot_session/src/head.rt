@@ -1,10 +1,9 @@
 //! The two request heads that are read.
-ghost use Rattle.std.specs.Prelude.{◌≡◌, ◌≤◌, IfSome, IsTrue, length, option_map, option_copied, ◌==◌};
+ghost use Rattle.std.specs.Prelude.{◌≡◌, ◌≤◌, ◌↔◌, IfSome, IsTrue, length, option_map, option_copied, ◌==◌};
 ghost use Rattle.std.specs.List.{list_all, list_any, position};
 ghost use Rattle.zot_session.specs.Head.{after, before, cut_at, decimal_value, digest_passes, form_of, get_form, is_decimal, is_digest_byte, length_of, length_passes, line_of, measured, name_passes, named, post_form, value_of};
+ghost use Rattle.zot_session.specs.PlainName.{IsPlainName};
 ghost use Rattle.zot_session.specs.Seen.{IsNamed, both, seen};
-
-use zot_model::is_name;
 
 /// The longest body of a request, in bytes.
 pub const BODY_LIMIT: u64 = 67_108_864;
@@ -138,11 +137,22 @@ fn name_in<'a>(target: &'a [u8]) -> Option<(&'a [u8], &'a [u8])>
     }
 }
 
-// Whether a text is the name of a repository.
+// Whether a text is such a name.
 fn passes_as_name(text: &[u8]) -> bool
     ensures { result ≡ name_passes text.now }
 {
-    is_name(text)
+    is_plain_name(text)
+}
+
+// Whether a text is 1 to 255 lower-case letters and digits.
+fn is_plain_name(text: &[u8]) -> bool
+    ensures { IsTrue result ↔ IsPlainName text.now }
+{
+    !text.is_empty()
+        && text.len() <= 255
+        && text
+            .iter()
+            .all(|byte| byte.is_ascii_lowercase() || byte.is_ascii_digit())
 }
 
 // Whether a text may stand where a digest is wanted.

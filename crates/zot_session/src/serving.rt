@@ -3,7 +3,7 @@ ghost use Rattle.std.specs.Prelude.{◌≡◌, ◌≢◌, IfNone, IfSome, [], So
 ghost use Rattle.zot_session.specs.Ends.{EndsAs, HasFailed};
 ghost use Rattle.zot_session.specs.Outside.{Rose, Takes};
 ghost use Rattle.zot_session.specs.Sending.{SendFaults};
-ghost use Rattle.zot_session.specs.Session.{Conducts, Served, is_blank};
+ghost use Rattle.zot_session.specs.Session.{Conducts, Served, is_blank, name_of};
 ghost use Rattle.zot_session.specs.Spelling.{HasStatus};
 ghost use Rattle.zot_session.specs.Turn.{CanReply, GoesOn, OverEnds, ReadCause, RefusalEnds, Replies, Stops, TakeEnds, WriteCause};
 ghost use Rattle.zot_session.specs.Waiting.{TakesPiece};
@@ -18,7 +18,7 @@ use crate::sink::Sink;
 use crate::source::Source;
 use crate::spelling::status_of;
 use std::alloc::Global;
-use zot_model::Reply;
+use zot_model::{Reply, Request};
 
 // One turn: takes a piece, or answers the message at the front, or ends the connection.
 fn turn<A: Answers, C: Source, K: Sink>(
@@ -62,9 +62,19 @@ fn exchange<A: Answers, K: Sink>(
     match message {
         Message::Asks(request) => {
             let reply = answers.answer(alloc, &request);
-            send(alloc, sink, request.name.as_slice(), &reply, false)
+            send(alloc, sink, name_of(&request), &reply, false)
         }
         Message::Refuses(reply) => send(alloc, sink, b"".as_slice(), &reply, false),
+    }
+}
+
+// The name of the repository that a request is on.
+fn name_of(request: &Request) -> &[u8]
+    ensures { result.now ≡ name_of request.now }
+{
+    match &request.name {
+        Some(name) => name.as_slice(),
+        None => b"".as_slice(),
     }
 }
 

@@ -35,13 +35,18 @@ pub fn spell_reply(
             push_end(alloc, &mut out, close, b"".as_slice())?;
             Ok(out)
         }
-        Reply::Refused { status, code } => {
+        Reply::Refused {
+            status,
+            code,
+            detail: _,
+        } => {
             push_status(&mut out, *status)?;
             push_json(&mut out)?;
             let body = refusal_body(alloc, *code)?;
             push_end(alloc, &mut out, close, body.as_slice())?;
             Ok(out)
         }
+        _ => unreachable!(),
     }
 }
 
@@ -53,6 +58,7 @@ pub fn status_of(reply: &Reply) -> u16
         Reply::Blob { .. } => 200,
         Reply::BlobMade { .. } => 201,
         Reply::Refused { status, .. } => *status,
+        _ => 0,
     }
 }
 
@@ -220,8 +226,28 @@ fn text_of(code: Code) -> &'static [u8]
 {
     match code {
         Code::BlobUnknown => b"BLOB_UNKNOWN".as_slice(),
+        Code::BlobUploadInvalid => b"BLOB_UPLOAD_INVALID".as_slice(),
+        Code::BlobUploadUnknown => b"BLOB_UPLOAD_UNKNOWN".as_slice(),
         Code::DigestInvalid => b"DIGEST_INVALID".as_slice(),
+        Code::ManifestBlobUnknown => b"MANIFEST_BLOB_UNKNOWN".as_slice(),
+        Code::ManifestInvalid => b"MANIFEST_INVALID".as_slice(),
+        Code::ManifestUnknown => b"MANIFEST_UNKNOWN".as_slice(),
+        Code::NameInvalid => b"NAME_INVALID".as_slice(),
+        Code::NameUnknown => b"NAME_UNKNOWN".as_slice(),
+        Code::SizeInvalid => b"SIZE_INVALID".as_slice(),
+        Code::Unsupported => b"UNSUPPORTED".as_slice(),
+        Code::TooManyRequests => b"TOOMANYREQUESTS".as_slice(),
+        Code::HeadInvalid => b"HEAD_INVALID".as_slice(),
+        Code::HeadTooLong => b"HEAD_TOO_LONG".as_slice(),
+        Code::StorageFault => b"STORAGE_FAULT".as_slice(),
+        Code::UpstreamFault => b"UPSTREAM_FAULT".as_slice(),
+        Code::UpstreamMismatch => b"UPSTREAM_MISMATCH".as_slice(),
+        Code::UpstreamIncomplete => b"UPSTREAM_INCOMPLETE".as_slice(),
+        Code::UpstreamInvalid => b"UPSTREAM_INVALID".as_slice(),
+        Code::UpstreamTooLarge => b"UPSTREAM_TOO_LARGE".as_slice(),
+        Code::PeerFault => b"PEER_FAULT".as_slice(),
         Code::NoMemory => b"NO_MEMORY".as_slice(),
+        Code::HopRefused => b"HOP_REFUSED".as_slice(),
         Code::NotBuilt => b"NOT_BUILT".as_slice(),
     }
 }
@@ -233,8 +259,28 @@ fn message_of(code: Code) -> &'static [u8]
 {
     match code {
         Code::BlobUnknown => b"blob unknown".as_slice(),
+        Code::BlobUploadInvalid => b"blob upload invalid".as_slice(),
+        Code::BlobUploadUnknown => b"blob upload unknown".as_slice(),
         Code::DigestInvalid => b"digest invalid".as_slice(),
+        Code::ManifestBlobUnknown => b"manifest blob unknown".as_slice(),
+        Code::ManifestInvalid => b"manifest invalid".as_slice(),
+        Code::ManifestUnknown => b"manifest unknown".as_slice(),
+        Code::NameInvalid => b"name invalid".as_slice(),
+        Code::NameUnknown => b"name unknown".as_slice(),
+        Code::SizeInvalid => b"size invalid".as_slice(),
+        Code::Unsupported => b"unsupported".as_slice(),
+        Code::TooManyRequests => b"toomanyrequests".as_slice(),
+        Code::HeadInvalid => b"head invalid".as_slice(),
+        Code::HeadTooLong => b"head too long".as_slice(),
+        Code::StorageFault => b"storage fault".as_slice(),
+        Code::UpstreamFault => b"upstream fault".as_slice(),
+        Code::UpstreamMismatch => b"upstream mismatch".as_slice(),
+        Code::UpstreamIncomplete => b"upstream incomplete".as_slice(),
+        Code::UpstreamInvalid => b"upstream invalid".as_slice(),
+        Code::UpstreamTooLarge => b"upstream too large".as_slice(),
+        Code::PeerFault => b"peer fault".as_slice(),
         Code::NoMemory => b"no memory".as_slice(),
+        Code::HopRefused => b"hop refused".as_slice(),
         Code::NotBuilt => b"not built".as_slice(),
     }
 }

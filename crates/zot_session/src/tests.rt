@@ -22,8 +22,8 @@ impl Answers for Refuser {
     fn answer(&mut self, _alloc: Global, request: &Request) -> Reply {
         self.asked = self.asked.saturating_add(1);
         match &request.call {
-            Call::GetBlob(_) => Reply::refused(Code::BlobUnknown),
-            Call::Post { .. } => Reply::refused(Code::DigestInvalid),
+            Call::GetBlob(_) => Reply::refused(404, Code::BlobUnknown),
+            _ => Reply::refused(400, Code::DigestInvalid),
         }
     }
 }
@@ -169,7 +169,7 @@ fn spellings(rt: HostRuntime) -> Result<(), Fail> {
             b"HTTP/1.1 201 Created\r\nLocation: /v2/a/blobs/sha256:44136fa355b3678a1146ad16f7e8649e94fb4fc21fe77e8310c060f61caaff8a\r\nDocker-Content-Digest: sha256:44136fa355b3678a1146ad16f7e8649e94fb4fc21fe77e8310c060f61caaff8a\r\nContent-Length: 0\r\n\r\n"
         )?
     );
-    let no_memory = Reply::refused(Code::NoMemory);
+    let no_memory = Reply::refused(503, Code::NoMemory);
     assert!(rt;
         is_spelled(
             alloc,
@@ -178,7 +178,7 @@ fn spellings(rt: HostRuntime) -> Result<(), Fail> {
             b"HTTP/1.1 503 Service Unavailable\r\nContent-Type: application/json\r\nContent-Length: 55\r\n\r\n{\"errors\":[{\"code\":\"NO_MEMORY\",\"message\":\"no memory\"}]}"
         )?
     );
-    let not_built = Reply::refused(Code::NotBuilt);
+    let not_built = Reply::refused(501, Code::NotBuilt);
     assert!(rt;
         is_spelled(
             alloc,
