@@ -1,0 +1,3 @@
+pub mod ObjectLemmas
+pub mod ListingLemmas
+pub mod StreamLemmas
