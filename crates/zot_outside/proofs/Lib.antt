@@ -1,0 +1,4 @@
+pub mod ObjectLemmas
+pub mod ListingLemmas
+mod PathLemmas
+pub mod StreamLemmas

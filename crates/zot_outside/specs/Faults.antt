@@ -1,0 +1,41 @@
+-- Counts of faults: what a call of the outside says of its object's count.
+use Rattle.std.specs.Prelude.{◌≡◌, ℕ, ◌+◌, ◌-◌, ◌^◌, ◌≤◌, min, ⊤, Result, Ok, Err, OnOk, OnErr}
+use Rattle.zot_outside.specs.declared.store_error.StoreError.{StoreError}
+use Rattle.zot_outside.specs.declared.store_error.StoreError.TheVariants.{Missing, Failed, NoMemory}
+
+-- a count has risen, or stands at the end of 64 bits
+abbrev pub Rose : ℕ → ℕ → Type 0
+Rose before after = min (before + 1) (2 ^ 64 - 1) ≤ after
+
+-- what a call says of its object's count of faults: it never falls, it rose where the call failed, and it stays where the call didn't
+pub record HasCause {T E : Type 0} (before after : ℕ) (result : Result T E) : Type 0 where
+  pub later : before ≤ after
+  pub failed : OnErr result (Rose before after)
+  pub kept : OnOk result (after ≡ before)
+
+-- a fact for a call of a store that failed
+abbrev pub OnFailed : {T : Type 0} → Result T StoreError → Type 0 → Type 0
+OnFailed (Ok x) P = ⊤
+OnFailed (Err Missing) P = ⊤
+OnFailed (Err Failed) P = P
+OnFailed (Err NoMemory) P = ⊤
+
+-- a fact for a call of a store that didn't fail, though it may have found nothing or no memory
+abbrev pub UnlessFailed : {T : Type 0} → Result T StoreError → Type 0 → Type 0
+UnlessFailed (Ok x) P = P
+UnlessFailed (Err Missing) P = P
+UnlessFailed (Err Failed) P = ⊤
+UnlessFailed (Err NoMemory) P = P
+
+-- a fact for a call of a store that found no object
+abbrev pub OnMissing : {T : Type 0} → Result T StoreError → Type 0 → Type 0
+OnMissing (Ok x) P = ⊤
+OnMissing (Err Missing) P = P
+OnMissing (Err Failed) P = ⊤
+OnMissing (Err NoMemory) P = ⊤
+
+-- what a call of a store says of the count of faults: it never falls, it rose where the call failed, and it stays where the call didn't
+pub record HasStoreCause {T : Type 0} (before after : ℕ) (result : Result T StoreError) : Type 0 where
+  pub later : before ≤ after
+  pub failed : OnFailed result (Rose before after)
+  pub kept : UnlessFailed result (after ≡ before)

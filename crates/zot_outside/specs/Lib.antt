@@ -1,0 +1,6 @@
+pub mod Accepted
+pub mod Faults
+pub mod Objects
+pub mod Paths
+pub mod Place
+pub mod Streams

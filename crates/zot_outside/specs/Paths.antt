@@ -1,0 +1,11 @@
+-- Which paths a folder keeps objects under, and the names of their files.
+use Rattle.std.specs.Prelude.{ℕ, Bool, not, ◌&&◌, ◌==◌, nat_lt, List, length, slice_index}
+use Rattle.std.specs.List.{list_all, list_any, slice_split}
+
+-- a part of such a path has a first byte, which isn't a dot, and no NUL
+abbrev pub is_part : List ℕ → Bool
+is_part part = nat_lt 0 (length part) && not (slice_index part 0 == 46) && not (list_any (λ b. b == 0) part)
+
+-- such a path is parts, joined by slashes
+abbrev pub is_object_path : List ℕ → Bool
+is_object_path path = list_all is_part (slice_split (λ b. b == 47) path)

@@ -1,0 +1,10 @@
+//! What a listener answers.
+
+/// What a listener found.
+#[derive(Drop)]
+pub enum Accepted<C, K> {
+    /// A connection: the number of the member that was asked, and the two ends.
+    Stream(u32, C, K),
+    /// Nothing was waiting.
+    Quiet,
+}

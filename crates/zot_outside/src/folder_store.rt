@@ -1,0 +1,173 @@
+//! A folder as a store.
+ghost use Rattle.std.specs.Prelude.{◌≡◌, ◌≤◌, ℕ, IfOk, None, string_bytes};
+ghost use Rattle.zot_outside.specs.declared.store_error.StoreError.TheVariants as errors;
+ghost use Rattle.zot_outside.specs.Faults.{HasStoreCause, OnMissing, Rose};
+
+use crate::failed::Failed;
+use crate::files::{copy_file, extend_file, file_size, read_file, remove_file, write_file};
+use crate::place::Place;
+use crate::store::Store;
+use crate::store_error::StoreError;
+use crate::walk::Walk;
+use std::alloc::{AllocError, Global};
+use std::fs::Files;
+use std::io;
+use std::io::ErrorKind;
+
+/// A folder of the system as a store: each object is a file below it, by its path. It tells nothing of its objects, and counts each failed call of the system.
+///
+/// An object's path is parts joined by slashes, each of at least one byte, without NUL and not beginning with a dot. No object has another path: it is missing where it is looked up, and a write to it fails. So no path leads out of the folder, and files whose names begin with a dot are none of its objects. Folders are made as they are wanted, and stay where their objects go. `put` and `copy` write a new file, whose name begins with a dot, and rename it over the old one. A folder can't keep an object under a path that begins another's, as `a` and `a/b`: the second write fails.
+#[derive(Drop)]
+pub struct FolderStore<R> {
+    rt: R,
+    root: String,
+    walk: Walk,
+    faults: u64,
+}
+
+impl<R: Drop> FolderStore<R> {
+    /// The store of the folder of this name, which is made with the first object. It takes memory for the name.
+    pub fn new(rt: R, alloc: Global, root: &str) -> Result<FolderStore<R>, AllocError>
+        ensures root { IfOk result (λ store. string_bytes store.root ≡ root.now) }
+        ensures faults { IfOk result (λ store. store.faults ≡ 0) }
+    {
+        let root = String::from_str(alloc, root)?;
+        Ok(FolderStore {
+            rt,
+            root,
+            walk: Walk::new(alloc),
+            faults: 0,
+        })
+    }
+
+    // Where the object of a path is kept.
+    fn place(&self, alloc: Global, path: &str) -> Result<Option<Place>, AllocError> {
+        Place::of(alloc, self.root.as_str(), path)
+    }
+
+    // Counts a fault.
+    fn fault(&mut self) -> StoreError
+        ensures answer { result ≡ errors.Failed }
+        ensures later { self.old.faults ≤ self.new.faults }
+        ensures rose { Rose self.old.faults self.new.faults }
+    {
+        self.faults = self.faults.saturating_add(1);
+        StoreError::Failed
+    }
+
+    // What a call answers whose work failed.
+    fn refuse(&mut self, error: io::Error) -> StoreError
+        ensures cause { HasStoreCause {T = ℕ} self.old.faults self.new.faults (Err result) }
+        ensures missing { OnMissing {T = ℕ} (Err result) ⊥ }
+    {
+        if error.kind() == ErrorKind::OutOfMemory {
+            StoreError::NoMemory
+        } else {
+            self.fault()
+        }
+    }
+
+    // What a call answers that did its work, or failed.
+    fn done<T>(&mut self, done: io::Result<T>) -> Result<T, StoreError>
+        ensures cause { HasStoreCause self.old.faults self.new.faults result }
+        ensures ok { IfOk result (λ x. done ≡ Ok x) }
+        ensures missing { OnMissing result ⊥ }
+    {
+        match done {
+            Ok(x) => Ok(x),
+            Err(error) => Err(self.refuse(error)),
+        }
+    }
+
+    // What a call answers that found something or nothing, or failed.
+    fn found<T>(&mut self, found: io::Result<Option<T>>) -> Result<T, StoreError>
+        ensures cause { HasStoreCause self.old.faults self.new.faults result }
+        ensures ok { IfOk result (λ x. found ≡ Ok (Some x)) }
+        ensures missing { OnMissing result (found ≡ Ok None) }
+    {
+        match found {
+            Ok(Some(x)) => Ok(x),
+            Ok(None) => Err(StoreError::Missing),
+            Err(error) => Err(self.refuse(error)),
+        }
+    }
+}
+
+impl<R: Files + AllocGlobal + Clone + Drop> Store for FolderStore<R> {
+    ghost objects = { λ _. None };
+
+    ghost faults = { λ s. s.faults };
+
+    ghost limited = { λ _. tt };
+
+    fn size(&mut self, alloc: Global, path: &str) -> Result<u64, StoreError> {
+        let Some(place) = self.place(alloc, path)? else {
+            return Err(StoreError::Missing);
+        };
+        let size = file_size(&self.rt, place.file.as_str());
+        self.found(size)
+    }
+
+    fn read(
+        &mut self,
+        alloc: Global,
+        path: &str,
+        at: u64,
+        buf: &mut [u8],
+    ) -> Result<usize, StoreError> {
+        let Some(place) = self.place(alloc, path)? else {
+            return Err(StoreError::Missing);
+        };
+        let read = read_file(&self.rt, place.file.as_str(), at, buf);
+        self.found(read)
+    }
+
+    fn put(&mut self, alloc: Global, path: &str, bytes: &[u8]) -> Result<(), StoreError> {
+        let Some(place) = self.place(alloc, path)? else {
+            return Err(self.fault());
+        };
+        self.walk.forget();
+        let written = write_file(&self.rt, &place, bytes);
+        self.done(written)
+    }
+
+    fn append(&mut self, alloc: Global, path: &str, bytes: &[u8]) -> Result<(), StoreError> {
+        let Some(place) = self.place(alloc, path)? else {
+            return Err(self.fault());
+        };
+        self.walk.forget();
+        let written = extend_file(&self.rt, &place, bytes);
+        self.done(written)
+    }
+
+    fn copy(&mut self, alloc: Global, from: &str, to: &str) -> Result<(), StoreError> {
+        let Some(source) = self.place(alloc, from)? else {
+            return Err(StoreError::Missing);
+        };
+        let Some(place) = self.place(alloc, to)? else {
+            return Err(self.fault());
+        };
+        self.walk.forget();
+        let copied = copy_file(&self.rt, &source, &place);
+        self.found(copied)
+    }
+
+    fn delete(&mut self, alloc: Global, path: &str) -> Result<(), StoreError> {
+        let Some(place) = self.place(alloc, path)? else {
+            return Err(StoreError::Missing);
+        };
+        self.walk.forget();
+        let removed = remove_file(&self.rt, place.file.as_str());
+        self.found(removed)
+    }
+
+    fn next(&mut self, alloc: Global, after: &str) -> Result<Option<String>, StoreError> {
+        let next = self.walk.next(&self.rt, alloc, self.root.as_str(), after);
+        self.done(next)
+    }
+
+    fn lost(&mut self) -> Failed {
+        self.faults = self.faults.saturating_add(1);
+        Failed
+    }
+}

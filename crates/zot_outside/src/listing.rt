@@ -1,0 +1,114 @@
+//! What lies in one folder.
+ghost use Rattle.std.specs.Prelude.{◌≡◌, ◌↔◌, IsTrue, string_bytes};
+
+use crate::files::is_absent;
+use crate::paths::names_object;
+use std::alloc::{AllocError, Global};
+use std::fs::{DirEntry, Files, ReadDir};
+use std::io::ErrorKind;
+use std::{fs, io};
+
+/// The paths in one folder, byte by byte in order: those of its files, and those of its folders with a slash behind, which begins all the paths below them.
+#[derive(Drop)]
+pub struct Listing {
+    folder: String,
+    paths: Vec<String>,
+}
+
+impl Listing {
+    /// What lies in a folder below a root, which is the root itself where its path is empty. It is nothing where there is no such folder.
+    pub fn read<R: Files + AllocGlobal + Clone + Drop>(
+        rt: &R,
+        alloc: Global,
+        root: &str,
+        folder: &str,
+    ) -> io::Result<Listing> {
+        let mut paths = Vec::new(alloc);
+        if let Some(entries) = open_folder(rt, alloc, root, folder)? {
+            for entry in entries {
+                if let Some(path) = path_of(alloc, folder, entry)? {
+                    paths.push(path).map_err(AllocError::from)?;
+                }
+            }
+        }
+        paths.as_mut_slice().sort_unstable();
+        let folder = String::from_str(alloc, folder)?;
+        Ok(Listing { folder, paths })
+    }
+
+    /// Whether it is that of this folder.
+    pub fn is_of(&self, folder: &str) -> bool
+        ensures { IsTrue result ↔ (string_bytes self.now.folder ≡ folder.now) }
+    {
+        self.folder.as_str() == folder
+    }
+
+    /// Whether its folder is this one or lies above it.
+    pub fn leads_to(&self, folder: &str) -> bool {
+        match folder.strip_prefix(self.folder.as_str()) {
+            Some(rest) => self.folder.is_empty() || rest.is_empty() || rest.starts_with('/'),
+            None => false,
+        }
+    }
+
+    /// The least of the paths that is greater than another.
+    pub fn above(&self, bound: &str) -> Option<&String> {
+        let paths = self.paths.as_slice();
+        paths.get(paths.partition_point(|path| path.as_str() <= bound))
+    }
+}
+
+// The entries of a folder, or `None` where there is no such folder.
+fn open_folder<R: Files + AllocGlobal + Clone + Drop>(
+    rt: &R,
+    alloc: Global,
+    root: &str,
+    folder: &str,
+) -> io::Result<Option<ReadDir<R, Global>>> {
+    let opened = if folder.is_empty() {
+        fs::read_dir(rt, root)
+    } else if names_object(folder) {
+        let name = format!(in alloc; "{root}/{folder}")?;
+        fs::read_dir(rt, name.as_str())
+    } else {
+        return Ok(None);
+    };
+    match opened {
+        Ok(entries) => Ok(Some(entries)),
+        Err(error) if is_absent(error.kind()) => Ok(None),
+        Err(error) => Err(error),
+    }
+}
+
+// The path of an entry, with a slash behind it for a folder. A name that is no text or begins with a dot has none, nor has what is neither a file nor a folder or has just gone.
+fn path_of<R: Files + Drop>(
+    alloc: Global,
+    folder: &str,
+    entry: io::Result<DirEntry<R, Global>>,
+) -> io::Result<Option<String>> {
+    let entry = match entry {
+        Ok(entry) => entry,
+        Err(error) if error.kind() == ErrorKind::InvalidFilename => return Ok(None),
+        Err(error) => return Err(error),
+    };
+    if entry.file_name().starts_with('.') {
+        return Ok(None);
+    }
+    let path = child(alloc, folder, entry.file_name())?;
+    match entry.file_type() {
+        Ok(kind) if kind.is_dir() => Ok(Some(format!(in alloc; "{path}/")?)),
+        Ok(kind) if kind.is_file() => Ok(Some(path)),
+        Ok(_) => Ok(None),
+        Err(error) if is_absent(error.kind()) => Ok(None),
+        Err(error) => Err(error),
+    }
+}
+
+// The path of a name in a folder.
+fn child(alloc: Global, folder: &str, name: &str) -> Result<String, AllocError> {
+    if folder.is_empty() {
+        String::from_str(alloc, name)
+    } else {
+        format!(in alloc; "{folder}/{name}")
+    }
+}

@@ -1,0 +1,11 @@
+//! A gate that is open.
+use crate::gate::Gate;
+use crate::point::Point;
+
+/// A gate that lets everything pass at once.
+#[derive(Clone, Copy, Debug, PartialEq, Eq)]
+pub struct OpenGate;
+
+impl Gate for OpenGate {
+    fn pass(&self, _point: &Point) {}
+}

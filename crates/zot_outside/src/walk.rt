@@ -1,0 +1,105 @@
+//! The files below a folder, one after another by their paths.
+use crate::listing::Listing;
+use std::alloc::{AllocError, Global};
+use std::fs::Files;
+use std::io;
+use std::io::ErrorKind;
+
+/// A walk through the files below a root. While it goes on from the path that it found last, each folder is read once, as it was when the walk came to it.
+#[derive(Drop)]
+pub struct Walk {
+    last: String,
+    listings: Vec<Listing>,
+}
+
+impl Walk {
+    /// A walk that hasn't begun. Takes no memory.
+    pub fn new(alloc: Global) -> Self {
+        Walk {
+            last: String::new(alloc),
+            listings: Vec::new(alloc),
+        }
+    }
+
+    /// Forgets what was read.
+    pub fn forget(&mut self) {
+        self.listings.clear();
+    }
+
+    /// The least path of a file below a root that is greater than a path, byte by byte.
+    pub fn next<R: Files + AllocGlobal + Clone + Drop>(
+        &mut self,
+        rt: &R,
+        alloc: Global,
+        root: &str,
+        after: &str,
+    ) -> io::Result<Option<String>> {
+        if self.last.as_str() != after {
+            self.forget();
+        }
+        let found = self.find(rt, alloc, root, after)?;
+        if let Some(path) = &found {
+            self.last = String::from_str(alloc, path.as_str())?;
+        }
+        Ok(found)
+    }
+
+    // The least path of a file that is greater than a path. It is looked for in the folder that the path lies in, then in those above, and in each folder on the way that comes next.
+    fn find<R: Files + AllocGlobal + Clone + Drop>(
+        &mut self,
+        rt: &R,
+        alloc: Global,
+        root: &str,
+        after: &str,
+    ) -> io::Result<Option<String>> {
+        let mut folder = String::from_str(alloc, above(after))?;
+        let mut bound = String::from_str(alloc, after)?;
+        for _ in 0..u64::MAX {
+            match self.least(rt, alloc, root, folder.as_str(), bound.as_str())? {
+                Some(path) => match path.as_str().strip_suffix('/') {
+                    Some(below) => {
+                        folder = String::from_str(alloc, below)?;
+                        bound = path;
+                    }
+                    None => return Ok(Some(path)),
+                },
+                None if folder.is_empty() => return Ok(None),
+                None => {
+                    bound = format!(in alloc; "{folder}/")?;
+                    folder = String::from_str(alloc, above(folder.as_str()))?;
+                }
+            }
+        }
+        Err(io::Error::from(ErrorKind::Other))
+    }
+
+    // The least path in a folder that is greater than a bound. The listings of folders that don't lie above it are let go.
+    fn least<R: Files + AllocGlobal + Clone + Drop>(
+        &mut self,
+        rt: &R,
+        alloc: Global,
+        root: &str,
+        folder: &str,
+        bound: &str,
+    ) -> io::Result<Option<String>> {
+        self.listings.retain(|listing| listing.leads_to(folder));
+        if !self.listings.iter().any(|listing| listing.is_of(folder)) {
+            let listing = Listing::read(rt, alloc, root, folder)?;
+            self.listings.push(listing).map_err(AllocError::from)?;
+        }
+        let found = self
+            .listings
+            .iter()
+            .find(|listing| listing.is_of(folder))
+            .and_then(|listing| listing.above(bound));
+        match found {
+            Some(path) => Ok(Some(String::from_str(alloc, path.as_str())?)),
+            None => Ok(None),
+        }
+    }
+}
+
+// What stands above the last part of a path, and nothing where it has one part.
+fn above(path: &str) -> &str {
+    path.rsplit_once('/').map_or("", |(above, _)| above)
+}

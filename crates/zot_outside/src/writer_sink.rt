@@ -1,0 +1,39 @@
+//! A writer of std as a sink.
+ghost use Rattle.std.specs.Prelude.{◌≡◌};
+
+use crate::failed::Failed;
+use crate::sink::Sink;
+use std::io::Write;
+
+/// A writer of std as a sink. It tells the bytes that the writer tells, as a `Vec` does and a terminal, a file or a stream of the network doesn't, and counts each failed write; a write that takes nothing of a piece has failed too.
+#[derive(Drop)]
+pub struct WriterSink<W> {
+    writer: W,
+    faults: u64,
+}
+
+impl<W> WriterSink<W> {
+    /// The sink over a writer. Takes no memory.
+    pub fn new(writer: W) -> Self
+        ensures writer { result.writer ≡ writer }
+        ensures faults { result.faults ≡ 0 }
+    {
+        WriterSink { writer, faults: 0 }
+    }
+}
+
+impl<W: Write> Sink for WriterSink<W> {
+    ghost held = { λ s. W.contents s.writer };
+
+    ghost faults = { λ s. s.faults };
+
+    fn write(&mut self, piece: &[u8]) -> Result<usize, Failed> {
+        match self.writer.write(piece) {
+            Ok(n) if n > 0 || piece.is_empty() => Ok(n),
+            _ => {
+                self.faults = self.faults.saturating_add(1);
+                Err(Failed)
+            }
+        }
+    }
+}
