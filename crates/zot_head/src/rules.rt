@@ -62,9 +62,7 @@ fn is_close_word(piece: &[u8]) -> bool
 fn lists_close(value: &[u8]) -> bool
     ensures { result ≡ lists_close_of value.now }
 {
-    value
-        .split(|b| *b == b',')
-        .any(|piece| is_close_word(piece))
+    value.split(|b| *b == b',').any(is_close_word)
 }
 
 /// Whether a field asks to close the connection.
@@ -79,14 +77,14 @@ fn is_close(field: &Field) -> bool
 fn asks_continue(fields: &[Field]) -> bool
     ensures { result ≡ list_any is_expectation_of fields.now }
 {
-    fields.iter().any(|field| is_expectation(field))
+    fields.iter().any(is_expectation)
 }
 
 /// Whether some field asks to close the connection.
 fn asks_close(fields: &[Field]) -> bool
     ensures { result ≡ list_any is_close_of fields.now }
 {
-    fields.iter().any(|field| is_close(field))
+    fields.iter().any(is_close)
 }
 
 /// Whether a `100 Continue` is owed before the body is read.
@@ -113,7 +111,7 @@ pub(crate) fn closes(minor: u8, fields: &[Field]) -> bool
 fn length_of(value: &[u8]) -> Option<u64>
     ensures { result ≡ length_of_value value.now }
 {
-    if value.is_empty() || value.len() > MAX_DIGITS || !value.iter().all(|b| b.is_ascii_digit()) {
+    if value.is_empty() || value.len() > MAX_DIGITS || !value.iter().all(u8::is_ascii_digit) {
         return None;
     }
     Some(digits_value(10, value))

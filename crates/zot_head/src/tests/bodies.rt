@@ -32,7 +32,7 @@ fn answered(
 }
 
 // The first place at which these bytes, cut in two there, are read otherwise.
-fn wrong_cut(
+fn cut_otherwise(
     alloc: Global,
     bytes: &[u8],
     end: usize,
@@ -42,23 +42,25 @@ fn wrong_cut(
     for cut in 0..bytes.len() {
         let mut chunks = Chunks::new(10);
         let mut out = Vec::new(alloc);
-        let front = chunks.feed(&bytes[..cut], &mut out);
-        let back = chunks.feed(&bytes[cut..], &mut out);
-        if front != answered(0, cut, end, refusal)
-            || back != answered(cut, bytes.len(), end, refusal)
-            || out.as_slice() != body
-        {
+        if chunks.feed(&bytes[..cut], &mut out) != answered(0, cut, end, refusal) {
+            return Some(cut);
+        }
+        if chunks.feed(&bytes[cut..], &mut out) != answered(cut, bytes.len(), end, refusal) {
+            return Some(cut);
+        }
+        if out.as_slice() != body {
             return Some(cut);
         }
     }
     None
 }
 
-// The first place at which these bytes, which come one by one, are read otherwise.
-fn wrong_byte(
+// The same where they come one by one.
+fn read_otherwise(
     alloc: Global,
     bytes: &[u8],
     end: usize,
+    body: &[u8],
     refusal: Option<ChunkError>,
 ) -> Option<usize> {
     let mut chunks = Chunks::new(10);
@@ -68,80 +70,84 @@ fn wrong_byte(
             return Some(i);
         }
     }
-    None
+    cut_otherwise(alloc, bytes, end, body, refusal)
 }
+
+// The bytes, with so many `a` in them; where it is known how they end; the body's bytes; and the refusal.
+const BODIES: &[(&str, u16, &str, usize, &str, Option<ChunkError>)] = &[
+    ("3\r\nabc\r\n0\r\n\nGET", 0, "", 12, "abc", None),
+    (
+        "A;x=\"\t~\r\n0123456789\r\n00;\r\nT: v\nU\r\r\n\r\n\n",
+        0,
+        "",
+        37,
+        "0123456789",
+        None,
+    ),
+    (
+        "0000000000000002\r\na\n\r\n0\r\n\r\n",
+        0,
+        "",
+        27,
+        "a\n",
+        None,
+    ),
+    // A chunk's line of 256 bytes, and one of 257.
+    ("0;", 252, "\r\n\r\n", 258, "", None),
+    ("0;", 253, "\r\n\r\n", 256, "", Some(ChunkError::Bad)),
+    // A trailer section of 16,384 bytes, and one of 16,385.
+    ("0\r\nT:", 16_378, "\r\n\r\n", 16_387, "", None),
+    (
+        "0\r\nT:",
+        16_379,
+        "\r\n\r\n",
+        16_387,
+        "",
+        Some(ChunkError::TooLong),
+    ),
+    (
+        "00000000000000002\r\nab\r\n",
+        0,
+        "",
+        19,
+        "",
+        Some(ChunkError::Bad),
+    ),
+    ("g\r\n", 0, "", 3, "", Some(ChunkError::Bad)),
+    ("\r\n", 0, "", 2, "", Some(ChunkError::Bad)),
+    ("3\nabc", 0, "", 2, "", Some(ChunkError::Bad)),
+    ("3 \r\nabc", 0, "", 4, "", Some(ChunkError::Bad)),
+    ("3;\x07\r\nabc", 0, "", 5, "", Some(ChunkError::Bad)),
+    ("3;a\nabc", 0, "", 4, "", Some(ChunkError::Bad)),
+    ("3\r\nabcd\r\n", 0, "", 8, "abc", Some(ChunkError::Bad)),
+    (
+        "A\r\n0123456789\r\n1\r\n",
+        0,
+        "",
+        18,
+        "0123456789",
+        Some(ChunkError::TooLarge),
+    ),
+    (
+        "ffffffffffffffff\r\n",
+        0,
+        "",
+        18,
+        "",
+        Some(ChunkError::TooLarge),
+    ),
+];
 
 #[test]
 fn bodies_cut_anywhere(rt: HostRuntime) -> Result<(), Fail> {
-    for (front, count, back, end, body, refusal) in [
-        ("3\r\nabc\r\n0\r\n\nGET", 0, "", 12, "abc", None),
-        (
-            "A;x=\"\t~\r\n0123456789\r\n00;\r\nT: v\nU\r\r\n\r\n\n",
-            0,
-            "",
-            37,
-            "0123456789",
-            None,
-        ),
-        (
-            "0000000000000002\r\na\n\r\n0\r\n\r\n",
-            0,
-            "",
-            27,
-            "a\n",
-            None,
-        ),
-        // A chunk's line of 256 bytes, and one of 257.
-        ("0;", 252, "\r\n\r\n", 258, "", None),
-        ("0;", 253, "\r\n\r\n", 256, "", Some(ChunkError::Bad)),
-        // A trailer section of 16,384 bytes, and one of 16,385.
-        ("0\r\nT:", 16_378, "\r\n\r\n", 16_387, "", None),
-        (
-            "0\r\nT:",
-            16_379,
-            "\r\n\r\n",
-            16_387,
-            "",
-            Some(ChunkError::TooLong),
-        ),
-        (
-            "00000000000000002\r\nab\r\n",
-            0,
-            "",
-            19,
-            "",
-            Some(ChunkError::Bad),
-        ),
-        ("g\r\n", 0, "", 3, "", Some(ChunkError::Bad)),
-        ("\r\n", 0, "", 2, "", Some(ChunkError::Bad)),
-        ("3\nabc", 0, "", 2, "", Some(ChunkError::Bad)),
-        ("3 \r\nabc", 0, "", 4, "", Some(ChunkError::Bad)),
-        ("3;\x07\r\nabc", 0, "", 5, "", Some(ChunkError::Bad)),
-        ("3;a\nabc", 0, "", 4, "", Some(ChunkError::Bad)),
-        ("3\r\nabcd\r\n", 0, "", 8, "abc", Some(ChunkError::Bad)),
-        (
-            "A\r\n0123456789\r\n1\r\n",
-            0,
-            "",
-            18,
-            "0123456789",
-            Some(ChunkError::TooLarge),
-        ),
-        (
-            "ffffffffffffffff\r\n",
-            0,
-            "",
-            18,
-            "",
-            Some(ChunkError::TooLarge),
-        ),
-    ] {
+    for &(front, count, back, end, body, refusal) in BODIES {
         let bytes = repeated(rt.alloc(), front.as_bytes(), b"a", count, back.as_bytes())?;
-        let cut = wrong_cut(rt.alloc(), bytes.as_slice(), end, body.as_bytes(), refusal);
+        let cut = read_otherwise(rt.alloc(), bytes.as_slice(), end, body.as_bytes(), refusal);
         assert_eq!(rt; cut, None, "{front}");
-        let byte = wrong_byte(rt.alloc(), bytes.as_slice(), end, refusal);
-        assert_eq!(rt; byte, None, "{front}");
     }
+    // However they were cut one thing is read, and none is refused for want of memory.
+    front_is_one();
+    refused_for_its_bytes();
     Ok(())
 }
 
@@ -154,20 +160,11 @@ fn pieces_of_one_body(rt: HostRuntime) -> Result<(), Fail> {
     ];
     let mut out = Vec::new(rt.alloc());
     let fed = Chunks::new(3).feed_all(&pieces, &mut out)?;
-    // What was sent is read, of all bytes but those behind, and is the same in one piece.
+    // What was sent is read, of all bytes but those behind it.
     sent_is_read();
     only_sent_is_read();
     message_takes();
     assert_eq!(rt; (fed.taken, fed.done), (13, true));
     assert_eq!(rt; out.as_slice(), b"abc".as_slice());
-    front_is_one();
-    let whole = Chunks::new(3).feed(b"3\r\nabc\r\n0\r\n\r\nGET", &mut out)?;
-    assert_eq!(rt; whole, fed);
-    // Bytes that are refused are so for what they are.
-    refused_for_its_bytes();
-    assert_eq!(rt;
-        Chunks::new(2).feed_all(&pieces, &mut out),
-        Err(ChunkError::TooLarge)
-    );
     Ok(())
 }
