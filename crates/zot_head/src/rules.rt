@@ -27,8 +27,8 @@ fn count_named(fields: &[Field], name: &[u8]) -> usize
     count
 }
 
-/// The value of the first field of that name.
-fn first_named<'a>(fields: &'a [Field], name: &[u8]) -> Option<&'a [u8]>
+/// The value of the first field of that name, which has no capital letter; names are compared without regard to case. Takes no memory.
+pub fn first_named<'a>(fields: &'a [Field], name: &[u8]) -> Option<&'a [u8]>
     requires { map to_ascii_lowercase name.now ≡ name.now }
     ensures { MatchOption result (values_of name.now fields.now ≡ [])
         (λ value. (rest : List (List ℕ)) × (values_of name.now fields.now ≡ value.now ∷ rest)) }
@@ -108,9 +108,9 @@ pub(crate) fn closes(minor: u8, fields: &[Field]) -> bool
     minor == 0 || asks_close(fields)
 }
 
-/// The number that 1 to 18 decimal digits write.
+/// The number that 1 to 18 decimal digits write, or none where the bytes are no such digits. Takes no memory.
 #[tactic(auto, unfolding(crate::specs::Fields::length_of))]
-fn length_of(value: &[u8]) -> Option<u64>
+pub fn length_of(value: &[u8]) -> Option<u64>
     ensures { result ≡ length_of_value value.now }
 {
     if value.is_empty() || value.len() > MAX_DIGITS || !value.iter().all(|b| b.is_ascii_digit()) {

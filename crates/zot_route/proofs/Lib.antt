@@ -1,2 +1,6 @@
 pub mod EndingLemmas
 pub mod PartLemmas
+pub mod LineLemmas
+pub mod ManifestLemmas
+pub mod NameLemmas
+pub mod RouteLemmas

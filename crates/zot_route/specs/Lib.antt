@@ -1,2 +1,7 @@
 pub mod Path
 pub mod Ending
+pub mod Query
+pub mod Lines
+pub mod Asked
+pub mod Told
+pub mod Routes
