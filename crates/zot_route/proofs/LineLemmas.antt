@@ -1,6 +1,6 @@
 -- What a query and a head's fields say.
 use Rattle.std.proofs.Common.{◌≡◌, ℕ, Bool, true, false, Some, None, List, [], ◌∷◌, refl, sym, ap, subst, ◌∙◌}
-use Rattle.std.specs.Prelude.{Option, IsUtf8, if◌then◌else◌}
+use Rattle.std.specs.Prelude.{IsUtf8}
 use Rattle.std.specs.Str.{bytes_eq, chars, is_utf8}
 use lib.Utf8.{encode}
 use Rattle.std.proofs.lemmas.Slice.Eq.{bytes_eq-Decides}

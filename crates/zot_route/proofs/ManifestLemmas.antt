@@ -1,6 +1,6 @@
 -- What a manifest is asked where memory didn't run out.
-use Rattle.std.proofs.Common.{◌≡◌, ℕ, List, Ok, Err, refl, sym, subst, ◌∙◌, ap}
-use Rattle.std.specs.Prelude.{Result, codes}
+use Rattle.std.proofs.Common.{◌≡◌, ℕ, List, Ok, Err, refl, sym, subst}
+use Rattle.std.specs.Prelude.{Result}
 use Rattle.zot_head.specs.declared.field.Field.{Field}
 use Rattle.zot_media.specs.declared.reference.Reference.{Reference}
 use Rattle.zot_model.specs.declared.call.Call.{Call}

@@ -1,5 +1,5 @@
 -- What becomes of a message.
-use Rattle.std.proofs.Common.{◌≡◌, ℕ, Bool, Some, None, Ok, Err, inl, inr, List, sym, subst, ap, ◌∙◌}
+use Rattle.std.proofs.Common.{◌≡◌, ℕ, Bool, None, Ok, Err, inl, inr, List, sym, subst, ap, ◌∙◌}
 use Rattle.std.specs.Prelude.{Option, Result, MatchOption, IfOk, IsUtf8}
 use Rattle.std.specs.declared.alloc.AllocError.{AllocError}
 use Rattle.std.specs.List.{AllByRecursion}
@@ -7,7 +7,6 @@ use Rattle.zot_head.specs.declared.head.Head.{Head}
 use Rattle.zot_model.specs.declared.call.Call.{Call}
 use Rattle.zot_model.specs.declared.code.Code.TheVariants.{NameInvalid}
 use Rattle.zot_model.specs.Reply.{refusal}
-use Rattle.zot_model.specs.declared.reply.Reply.{Reply}
 use Rattle.zot_route.specs.Asked.{Asked}
 use Rattle.zot_route.specs.Ending.{Read}
 use Rattle.zot_route.specs.Path.{IsPath, parts_of}

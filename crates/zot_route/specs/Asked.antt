@@ -1,5 +1,5 @@
 -- What a path of each form asks with each method, or how it is refused. The cases of a form are asked in the order in which they stand.
-use Rattle.std.specs.Prelude.{◌≡◌, ◌≢◌, ℕ, ◌<◌, ◌≤◌, ◌^◌, ◌==◌, ◌⊎◌, if◌then◌else◌, List, length, Option, Some, None, Result, Ok, Err, codes, ⊤}
+use Rattle.std.specs.Prelude.{◌≡◌, ◌≢◌, ℕ, ◌<◌, ◌≤◌, ◌^◌, ◌==◌, ◌⊎◌, if◌then◌else◌, List, length, Option, Some, None, Result, Ok, Err, codes}
 use Rattle.std.specs.List.{list_any}
 use Rattle.std.specs.Str.{bytes_eq}
 use Rattle.zot_digest.specs.Digest.{digest_named}
@@ -10,7 +10,6 @@ use Rattle.zot_media.specs.declared.reference.Reference.{Reference}
 use Rattle.zot_media.specs.declared.reference.Reference.TheVariants as references
 use Rattle.zot_model.specs.declared.call.Call.{Call}
 use Rattle.zot_model.specs.declared.call.Call.TheVariants as calls
-use Rattle.zot_model.specs.declared.code.Code.{Code}
 use Rattle.zot_model.specs.declared.code.Code.TheVariants.{BlobUploadInvalid, DigestInvalid, ManifestInvalid, ManifestUnknown, SizeInvalid, Unsupported}
 use Rattle.zot_model.specs.declared.detail.Detail.TheVariants.{Allow}
 use Rattle.zot_model.specs.declared.methods.Methods.{Methods}
@@ -26,8 +25,7 @@ use Rattle.zot_names.specs.Tag.{IsTag}
 use Rattle.zot_names.specs.Upload.{upload_text}
 use Rattle.zot_route.specs.declared.verb.Verb.{Verb}
 use Rattle.zot_route.specs.declared.verb.Verb.TheVariants.{Delete, Get, Head, Other, Patch, Post, Put}
-use Rattle.zot_route.specs.Lines.{AreMedia, range_of}
-use Rattle.zot_route.specs.Query.{value_of}
+use Rattle.zot_route.specs.Lines.{AreMedia}
 
 -- a call, or the refusal of a message that asks for none
 abbrev pub Asked : Type 0

@@ -1,12 +1,10 @@
 -- What becomes of a message whose head and body are whole: one request, or the one refusal that comes first. A path is looked at first, then its name, then the method, and then what the form of the path asks.
-use Rattle.std.specs.Prelude.{◌≡◌, ◌⊎◌, IsUtf8, ℕ, Bool, List, Option, Some, None, Result, Ok, Err, codes}
+use Rattle.std.specs.Prelude.{◌≡◌, ◌⊎◌, IsUtf8, ℕ, Bool, List, Option, Some, None, Ok, Err, codes}
 use Rattle.std.specs.List.{AllByRecursion, join_with_byte}
 use Rattle.zot_head.specs.declared.head.Head.{Head}
 use Rattle.zot_model.specs.declared.code.Code.TheVariants.{NameInvalid, Unsupported}
-use Rattle.zot_model.specs.declared.reply.Reply.{Reply}
 use Rattle.zot_model.specs.Reply.{refusal}
 use Rattle.zot_names.specs.Name.{IsName}
-use Rattle.zot_names.specs.declared.upload_id.UploadId.{UploadId}
 use Rattle.zot_route.specs.declared.form.Form.{Form}
 use Rattle.zot_route.specs.declared.form.Form.TheVariants as forms
 use Rattle.zot_route.specs.declared.routed.Routed.{Routed}

@@ -1,4 +1,4 @@
-use Rattle.std.proofs.Common.{◌≡◌, Err, rules}
+use Rattle.std.proofs.Common.{rules}
 use Rattle.zot_model.specs.declared.call.Call.TheVariants.{DeleteManifest, GetManifest, HeadManifest}
 use Rattle.zot_route.proofs.ManifestLemmas.{call_err, call_ok, put_err, put_ok}
 use Rattle.zot_route.proofs.manifest.manifest.Goals as goal

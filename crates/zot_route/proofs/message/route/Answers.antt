@@ -1,6 +1,6 @@
-use Rattle.std.proofs.Common.{◌≡◌, inl, sym, ◌∙◌, subst, rules}
+use Rattle.std.proofs.Common.{◌≡◌, inl, ◌∙◌, rules}
 use Rattle.zot_route.specs.Path.{parts_of}
-use Rattle.zot_route.proofs.RouteLemmas.{no_path, with_path}
+use Rattle.zot_route.proofs.RouteLemmas.{no_path}
 use Rattle.zot_route.proofs.message.route.Goals as goal
 
 pub returns-in-None : goal.returns-in-None

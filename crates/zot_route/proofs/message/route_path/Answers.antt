@@ -1,2 +1,0 @@
-use Rattle.zot_route.proofs.RouteLemmas.{bad_name, with_name}
-use Rattle.zot_route.proofs.message.route_path.Goals as goal

@@ -1,4 +1,3 @@
-use Rattle.std.proofs.Common.{◌≡◌}
 use Rattle.zot_route.proofs.LineLemmas.{found, no_more, passed}
 use Rattle.zot_route.proofs.pairs.value.Goals as goal
 
