@@ -4,3 +4,4 @@ pub mod LineLemmas
 pub mod ManifestLemmas
 pub mod NameLemmas
 pub mod RouteLemmas
+pub mod ValidLemmas

@@ -3,7 +3,9 @@ use Rattle.std.specs.Prelude.{◌≡◌, ◌⊎◌, IsUtf8, ℕ, Bool, List, Opt
 use Rattle.std.specs.List.{AllByRecursion, join_with_byte}
 use Rattle.zot_head.specs.declared.head.Head.{Head}
 use Rattle.zot_model.specs.declared.code.Code.TheVariants.{NameInvalid, Unsupported}
+use Rattle.zot_model.specs.Fits.{Declines}
 use Rattle.zot_model.specs.Reply.{refusal}
+use Rattle.zot_model.specs.Valid.{IsValid}
 use Rattle.zot_names.specs.Name.{IsName}
 use Rattle.zot_route.specs.declared.form.Form.{Form}
 use Rattle.zot_route.specs.declared.form.Form.TheVariants as forms
@@ -56,3 +58,8 @@ Routes head body routed =
     (HasNoPath head.target × (routed ≡ routes.Refused (refusal 404 Unsupported)))
     ⊎ (AllByRecursion IsUtf8 (parts_of head.target) × (form : Form) × (name : List (List ℕ)) × (text : List ℕ)
     × IsPath (parts_of head.target) form name text × RoutesPath form name text head body routed)
+
+-- a valid request, or a refusal that a message may have
+abbrev pub IsSound : Routed → Type 0
+IsSound (routes.Request request) = IsValid request
+IsSound (routes.Refused reply) = Declines reply

@@ -21,6 +21,6 @@ mod target;
 mod tests;
 mod verb;
 
-pub use crate::laws::path_is_one;
+pub use crate::laws::{path_is_one, routes_are_sound};
 pub use crate::message::route;
 pub use crate::routed::Routed;

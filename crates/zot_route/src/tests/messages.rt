@@ -1,5 +1,5 @@
 //! Messages of each form and method, and several faults at once.
-use crate::{Routed, route};
+use crate::{Routed, route, routes_are_sound};
 use std::alloc::Global;
 use std::test::Fail;
 use zot_digest::{Bytes, Words, digest_of};
@@ -220,6 +220,8 @@ fn refusals(rt: HostRuntime) -> Result<(), Fail> {
 
 #[test]
 fn requests(rt: HostRuntime) -> Result<(), Fail> {
+    // Each request below is valid, as this law says of all messages.
+    routes_are_sound();
     let alloc = rt.alloc();
     let digest = digest_of(b"{}");
     let base = Routed::Request(Request {
