@@ -1,0 +1,43 @@
+-- What the sources, sinks, stores and clocks in memory tell.
+use Rattle.std.specs.Prelude.{ℕ, List, drop}
+use Rattle.zot_fakes.specs.Calls.{Count}
+use Rattle.zot_fakes.specs.declared.hand_clock.HandClock.{HandClock}
+use Rattle.zot_fakes.specs.declared.memory_sink.MemorySink.{MemorySink}
+use Rattle.zot_fakes.specs.declared.memory_source.MemorySource.{MemorySource}
+use Rattle.zot_fakes.specs.declared.memory_store.MemoryStore.{MemoryStore}
+use Rattle.zot_fakes.specs.declared.steady_source.SteadySource.{SteadySource}
+use Rattle.zot_fakes.specs.declared.steady_store.SteadyStore.{SteadyStore}
+use Rattle.zot_outside.specs.Objects.{Objects}
+
+-- the bytes that a source has left which never fails
+abbrev pub steady_left : SteadySource → List ℕ
+steady_left s = drop s.start s.bytes.items
+
+-- the bytes that a source has left which fails by a list, and its calls
+abbrev pub source_left : MemorySource → List ℕ
+source_left s = steady_left s.source
+
+abbrev pub source_calls : MemorySource → Count
+source_calls s = s.calls
+
+-- the bytes that were written to a sink, and its calls
+abbrev pub sink_held : MemorySink → List ℕ
+sink_held s = s.bytes.items
+
+abbrev pub sink_calls : MemorySink → Count
+sink_calls s = s.calls
+
+-- the objects of a store that never fails
+abbrev pub steady_objects : SteadyStore → Objects
+steady_objects s = s.objects
+
+-- the objects of a store that fails by a list, and its calls
+abbrev pub memory_objects : MemoryStore → Objects
+memory_objects s = steady_objects s.store
+
+abbrev pub memory_calls : MemoryStore → Count
+memory_calls s = s.calls
+
+-- the moment of a clock that was set by hand
+abbrev pub clock_moment : HandClock → ℕ
+clock_moment c = c.moment

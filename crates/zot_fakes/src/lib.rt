@@ -1,0 +1,22 @@
+//! What stands in memory for the outside: sources, sinks, stores and a clock that tell all that they hold.
+#![tactic(auto)]
+
+mod calls;
+mod hand_clock;
+mod laws;
+mod memory_sink;
+mod memory_source;
+mod memory_store;
+mod object_map;
+mod steady_source;
+mod steady_store;
+#[cfg(test)]
+mod tests;
+
+pub use crate::hand_clock::HandClock;
+pub use crate::laws::empty_list_fails_none;
+pub use crate::memory_sink::MemorySink;
+pub use crate::memory_source::MemorySource;
+pub use crate::memory_store::MemoryStore;
+pub use crate::steady_source::SteadySource;
+pub use crate::steady_store::SteadyStore;

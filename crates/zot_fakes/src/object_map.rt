@@ -1,0 +1,130 @@
+//! Objects in memory, by their paths.
+ghost use Rattle.std.specs.Prelude.{◌≡◌, ◌<◌, ◌≤◌, ◌^◌, ◌++◌, false, IfOk, OnErr, OnOk, Some, is_some, map as each, option_copied, string_bytes};
+ghost use Rattle.std.specs.FinMap as map;
+ghost use Rattle.zot_fakes.specs.Given.{objects_of};
+ghost use Rattle.zot_outside.specs.Objects.{Follows, bytes_at, with_object};
+
+use std::alloc::{AllocError, Global};
+use std::collections::BTreeMap;
+use std::marker::Model;
+use std::mem;
+use std::ops::Bound;
+use zot_digest::{Bytes, Words};
+
+/// Objects in a tree by their paths. Contracts see the finite map from paths to bytes.
+#[derive(Drop)]
+pub struct ObjectMap {
+    tree: BTreeMap<Words, Bytes>,
+}
+
+impl Model for ObjectMap {
+    ghost use Rattle.std.specs.Coded.{coded_list, coded_ℕ};
+    ghost use Rattle.std.specs.FinMap as map;
+    ghost use Rattle.zot_digest.specs.ByteMap.{map_of};
+    ghost use Rattle.zot_outside.specs.Objects.{Objects};
+
+    ghost Value = { Objects };
+
+    ghost coded = { map.code (coded_list coded_ℕ) (coded_list coded_ℕ) };
+
+    ghost view = { λ m. map_of m.tree.entries };
+}
+
+impl ObjectMap {
+    /// No objects. Takes no memory.
+    pub fn new(alloc: Global) -> Self
+        ensures { result ≡ map.empty }
+    {
+        ObjectMap {
+            tree: BTreeMap::new(alloc),
+        }
+    }
+
+    /// These objects, of which the last one of a path counts.
+    pub fn of(alloc: Global, objects: Vec<(String, Vec<u8>)>) -> Result<ObjectMap, AllocError>
+        ensures { IfOk result (λ made. made ≡ objects_of (each (λ o. (string_bytes o.0, o.1.items)) objects.items)) }
+    {
+        let mut made = ObjectMap::new(alloc);
+        for (path, bytes) in objects {
+            made.set(Words::new(path), Bytes::new(bytes))?;
+        }
+        Ok(made)
+    }
+
+    /// At least how many objects there are, which is below 2^63.
+    pub fn len(&self) -> usize
+        ensures at_least { map.len self.now ≤ result }
+        ensures few { result < 2 ^ 63 }
+    {
+        self.tree.len()
+    }
+
+    /// Sets the object of a path. After an `Err` the objects are as they were.
+    pub fn set(&mut self, path: Words, bytes: Bytes) -> Result<(), AllocError>
+        ensures ok { OnOk result (self.new ≡ with_object self.old path bytes) }
+        ensures err { OnErr result (self.new ≡ self.old) }
+    {
+        self.tree.insert(path, bytes)?;
+        Ok(())
+    }
+
+    /// The object of a path. It fails only where memory does.
+    pub fn get(&self, alloc: Global, path: &str) -> Result<Option<&Bytes>, AllocError>
+        ensures { IfOk result (λ found. option_copied found ≡ map.get self.now path.now) }
+    {
+        let key = words(alloc, path)?;
+        Ok(self.tree.get(&key))
+    }
+
+    /// Adds bytes at the end of the object of a path, or makes it of them where there is none. After an `Err` the objects are as they were.
+    pub fn append(&mut self, alloc: Global, path: &str, bytes: &[u8]) -> Result<(), AllocError>
+        ensures ok { OnOk result (self.new ≡ with_object self.old path.now (bytes_at self.old path.now ++ bytes.now)) }
+        ensures err { OnErr result (self.new ≡ self.old) }
+    {
+        let key = words(alloc, path)?;
+        match self.tree.get_mut(&key) {
+            Some(object) => extend(alloc, object, bytes),
+            None => self.set(key, Bytes::new(Vec::from_slice(alloc, bytes)?)),
+        }
+    }
+
+    /// Removes the object of a path, and answers whether there was one. After an `Err` the objects are as they were.
+    pub fn remove(&mut self, alloc: Global, path: &str) -> Result<bool, AllocError>
+        ensures was { IfOk result (λ was. was ≡ is_some (map.get self.old path.now)) }
+        ensures ok { OnOk result (self.new ≡ map.remove self.old path.now) }
+        ensures same { IfOk result (λ was. was ≡ false → self.new ≡ self.old) }
+        ensures err { OnErr result (self.new ≡ self.old) }
+    {
+        let key = words(alloc, path)?;
+        Ok(self.tree.remove(&key).is_some())
+    }
+
+    /// The least path with an object that is greater than a path. It fails only where memory does.
+    pub fn next(&self, alloc: Global, after: &str) -> Result<Option<&Words>, AllocError>
+        ensures { IfOk result (λ found. Follows (Some self.now) after.now (option_copied found)) }
+    {
+        let after = Bound::Excluded(words(alloc, after)?);
+        match self.tree.range((after, Bound::Unbounded)).next() {
+            Some((path, _)) => Ok(Some(path)),
+            None => Ok(None),
+        }
+    }
+}
+
+// Adds bytes behind others. After an `Err` these are as they were.
+fn extend(alloc: Global, bytes: &mut Bytes, more: &[u8]) -> Result<(), AllocError>
+    ensures ok { OnOk result (bytes.new ≡ bytes.old ++ more.now) }
+    ensures err { OnErr result (bytes.new ≡ bytes.old) }
+{
+    let mut items = mem::replace(bytes, Bytes::new(Vec::new(alloc))).into_vec();
+    let extended = items.extend_from_slice(more);
+    *bytes = Bytes::new(items);
+    extended
+}
+
+// A text of its own.
+fn words(alloc: Global, text: &str) -> Result<Words, AllocError>
+    ensures { IfOk result (λ words. words ≡ text.now) }
+{
+    Ok(Words::new(String::from_str(alloc, text)?))
+}
