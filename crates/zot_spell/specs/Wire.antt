@@ -83,14 +83,18 @@ pairs_of (calls.Tags n last) = pair_of (codes "n") (option_map decimal n) ++ pai
 pairs_of (calls.Referrers digest filter) = pair_of (codes "artifactType") filter
 pairs_of _ = []
 
--- a query behind its `?`, where it has a key; values are written as `form_urlencoded` does (URL Standard, section 5)
-unfoldable pub query_text : List (List ℕ × List ℕ) → List ℕ
+-- the text of pairs, as `form_urlencoded` writes it (URL Standard, section 5)
+abbrev pub form_text : List (List ℕ × List ℕ) → List ℕ
+form_text pairs = extend_pairs [] pairs
+
+-- a query behind its `?`, where there is one
+unfoldable pub query_text : List ℕ → List ℕ
 query_text [] = []
-query_text (pair ∷ pairs) = codes "?" ++ extend_pairs [] (pair ∷ pairs)
+query_text (b ∷ form) = codes "?" ++ b ∷ form
 
 -- the target of a request
 unfoldable pub target_text : Request → List ℕ
-target_text request = codes "/v2/" ++ unwrap_or request.name [] ++ path_of request.call ++ query_text (pairs_of request.call)
+target_text request = codes "/v2/" ++ unwrap_or request.name [] ++ path_of request.call ++ query_text (form_text (pairs_of request.call))
 
 -- ---- fields
 

@@ -5,7 +5,12 @@ mod bodies;
 mod codes;
 mod fields;
 mod places;
+mod query;
 mod reply;
+mod request;
 mod status;
+#[cfg(test)]
+mod tests;
 
 pub use crate::reply::spell_reply;
+pub use crate::request::spell_request;

@@ -1,0 +1,114 @@
+//! The queries of requests.
+ghost use Rattle.std.specs.Prelude.{◌≡◌, OnOk, IfOk, codes, option_map, string_bytes};
+ghost use Rattle.std.specs.Fmt.{decimal};
+ghost use Rattle.form_urlencoded.specs.Form.{extend_pairs};
+ghost use Rattle.zot_digest.specs.Digest.{digest_text};
+ghost use Rattle.zot_spell.specs.Wire.{form_text, mount_pairs, pair_of, pairs_of};
+
+use form_urlencoded::Serializer;
+use std::alloc::{AllocError, Global};
+use zot_digest::{Digest, Words};
+use zot_model::{Call, Mount};
+use zot_names::RepoName;
+
+/// The query of a call: its keys with their values.
+#[tactic(auto, unfolding(crate::specs::Wire::pairs_of))]
+pub fn form_of(alloc: Global, call: &Call) -> Result<String, AllocError>
+    ensures { IfOk result (λ form. string_bytes form ≡ form_text (pairs_of call.now)) }
+{
+    let mut form = Serializer::new(String::new(alloc));
+    match call {
+        Call::Post { mount, digest, .. } => {
+            push_mount(alloc, &mut form, mount)?;
+            push_digest(alloc, &mut form, digest)?;
+        }
+        Call::Finish { digest, .. } => push_digest(alloc, &mut form, &Some(*digest))?,
+        Call::Tags { n, last } => {
+            push_number(alloc, &mut form, n)?;
+            push_words(&mut form, "last", last)?;
+        }
+        Call::Referrers { filter, .. } => push_words(&mut form, "artifactType", filter)?,
+        _ => {}
+    }
+    Ok(form.finish())
+}
+
+// Adds the keys of a mount, where there is one.
+fn push_mount(
+    alloc: Global,
+    form: &mut Serializer<Global>,
+    mount: &Option<Mount>,
+) -> Result<(), AllocError>
+    ensures { OnOk result (form.new ≡ record form.old { form = extend_pairs form.old.form (mount_pairs mount.now) }) }
+{
+    match mount {
+        Some(mount) => {
+            let text = mount.digest.text(alloc)?;
+            form.append_pair("mount", text.as_str())?;
+            push_from(form, &mount.from)
+        }
+        None => Ok(()),
+    }
+}
+
+// Adds the repository that may have a blob to be taken over, where there is one.
+fn push_from(form: &mut Serializer<Global>, from: &Option<RepoName>) -> Result<(), AllocError>
+    ensures { OnOk result (form.new ≡ record form.old { form = extend_pairs form.old.form (pair_of (codes "from") from.now) }) }
+{
+    match from {
+        Some(name) => form.append_pair("from", name.as_str()),
+        None => Ok(()),
+    }
+}
+
+// Adds a digest, where there is one.
+fn push_digest(
+    alloc: Global,
+    form: &mut Serializer<Global>,
+    digest: &Option<Digest>,
+) -> Result<(), AllocError>
+    ensures { OnOk result (form.new ≡ record form.old {
+      form = extend_pairs form.old.form (pair_of (codes "digest") (option_map digest_text digest.now));
+    }) }
+{
+    match digest {
+        Some(digest) => {
+            let text = digest.text(alloc)?;
+            form.append_pair("digest", text.as_str())
+        }
+        None => Ok(()),
+    }
+}
+
+// Adds the most tags that are asked for, where there is a number.
+fn push_number(
+    alloc: Global,
+    form: &mut Serializer<Global>,
+    n: &Option<u64>,
+) -> Result<(), AllocError>
+    ensures { OnOk result (form.new ≡ record form.old {
+      form = extend_pairs form.old.form (pair_of (codes "n") (option_map decimal n.now));
+    }) }
+{
+    match n {
+        Some(n) => {
+            let text = n.to_string(alloc)?;
+            form.append_pair("n", text.as_str())
+        }
+        None => Ok(()),
+    }
+}
+
+// Adds a key with a text, where there is one.
+fn push_words(
+    form: &mut Serializer<Global>,
+    key: &str,
+    words: &Option<Words>,
+) -> Result<(), AllocError>
+    ensures { OnOk result (form.new ≡ record form.old { form = extend_pairs form.old.form (pair_of key.now words.now) }) }
+{
+    match words {
+        Some(words) => form.append_pair(key, words.as_str()),
+        None => Ok(()),
+    }
+}

@@ -1,0 +1,426 @@
+//! Each kind of reply and of request, against the lines that the specifications give them.
+ghost use Rattle.std.specs.Prelude.{◌≡◌, IfOk, option_map};
+ghost use Rattle.zot_spell.specs.Spelling.{MayHave};
+
+use crate::{spell_reply, spell_request};
+use std::alloc::{AllocError, Global};
+use std::test::Fail;
+use zot_digest::{Bytes, Digest, Words, digest_of};
+use zot_media::{Media, Reference};
+use zot_model::{Call, Code, Detail, Methods, Mount, Reply, Request, Span};
+use zot_names::{RepoName, Tag, TagList, UploadId};
+
+/// The digests of `{}` and of `abc`.
+const OBJECT: &str = "sha256:44136fa355b3678a1146ad16f7e8649e94fb4fc21fe77e8310c060f61caaff8a";
+
+const LETTERS: &str = "sha256:ba7816bf8f01cfea414140de5dae2223b00361a396177a9cb410ff61f20015ad";
+
+/// Replies, each in a line: `|` stands for CR LF, `@` for the digest of `{}`, `$` for that of `abc`.
+const REPLIES: &str =
+    r#"HTTP/1.1 200 OK|Docker-Distribution-Api-Version: registry/2.0|Content-Type: application/json|Content-Length: 2||{}
+HTTP/1.1 200 OK|Docker-Distribution-Api-Version: registry/2.0|Content-Type: application/json|Content-Length: 2||
+HTTP/1.1 200 OK|Docker-Content-Digest: @|Content-Type: application/octet-stream|Content-Length: 2|Connection: close||{}
+HTTP/1.1 200 OK|Docker-Content-Digest: $|Content-Type: application/octet-stream|Content-Length: 3||
+HTTP/1.1 201 Created|Location: /v2/lib/a/blobs/$|Docker-Content-Digest: $|Content-Length: 0||
+HTTP/1.1 202 Accepted|Location: /v2/lib/a/blobs/uploads/0000000000000001|Range: 0-0|Docker-Upload-UUID: 0000000000000001|Content-Length: 0||
+HTTP/1.1 202 Accepted|Location: /v2/lib/a/blobs/uploads/00000000000000ff|Range: 0-2|Docker-Upload-UUID: 00000000000000ff|Content-Length: 0|Connection: close||
+HTTP/1.1 204 No Content|Location: /v2/lib/a/blobs/uploads/0000000000000001|Range: 0-0|Docker-Upload-UUID: 0000000000000001||
+HTTP/1.1 201 Created|Location: /v2/lib/a/manifests/@|Docker-Content-Digest: @|Content-Length: 0||
+HTTP/1.1 201 Created|Location: /v2/lib/a/manifests/@|Docker-Content-Digest: @|OCI-Subject: $|Content-Length: 0||
+HTTP/1.1 200 OK|Docker-Content-Digest: @|Content-Type: application/vnd.docker.distribution.manifest.v2+json|Content-Length: 2||{}
+HTTP/1.1 200 OK|Docker-Content-Digest: @|Content-Type: application/vnd.oci.image.manifest.v1+json|Content-Length: 2||
+HTTP/1.1 200 OK|Content-Type: application/json|Content-Length: 33||{"name":"lib/a","tags":["A","a"]}
+HTTP/1.1 200 OK|Link: </v2/lib/a/tags/list?n=1&last=a>; rel="next"|Content-Type: application/json|Content-Length: 29||{"name":"lib/a","tags":["a"]}
+HTTP/1.1 200 OK|OCI-Filters-Applied: artifactType|Content-Type: application/vnd.oci.image.index.v1+json|Content-Length: 2||{}
+HTTP/1.1 200 OK|Content-Type: application/vnd.oci.image.index.v1+json|Content-Length: 2||{}
+HTTP/1.1 202 Accepted|Content-Length: 0||
+HTTP/1.1 404 Not Found|Content-Type: application/json|Content-Length: 61||{"errors":[{"code":"BLOB_UNKNOWN","message":"blob unknown"}]}
+HTTP/1.1 404 Not Found|Content-Type: application/json|Content-Length: 61||
+HTTP/1.1 405 Method Not Allowed|Allow: GET, HEAD|Content-Type: application/json|Content-Length: 59||{"errors":[{"code":"UNSUPPORTED","message":"unsupported"}]}
+HTTP/1.1 416 Range Not Satisfiable|Location: /v2/lib/a/blobs/uploads/0000000000000001|Range: 0-1|Docker-Upload-UUID: 0000000000000001|Content-Type: application/json|Content-Length: 75||{"errors":[{"code":"BLOB_UPLOAD_INVALID","message":"blob upload invalid"}]}
+HTTP/1.1 400 Bad Request|Content-Type: application/json|Content-Length: 162||{"errors":[{"code":"MANIFEST_BLOB_UNKNOWN","detail":"$","message":"manifest blob unknown"}]}
+HTTP/1.1 502 Bad Gateway|Content-Type: application/json|Content-Length: 241||{"errors":[{"code":"UPSTREAM_MISMATCH","detail":"expected @ found $","message":"upstream mismatch"}]}
+HTTP/1.1 405 Method Not Allowed|Allow: GET, PATCH, PUT|Content-Type: application/json|Content-Length: 59|Connection: close||{"errors":[{"code":"UNSUPPORTED","message":"unsupported"}]}
+HTTP/1.1 431 Request Header Fields Too Large|Content-Type: application/json|Content-Length: 63|Connection: close||{"errors":[{"code":"HEAD_TOO_LONG","message":"head too long"}]}"#;
+
+/// Requests, each in a line of that kind.
+const REQUESTS: &str = r#"GET /v2/ HTTP/1.1|Host: member||
+GET /v2/lib/a/blobs/$ HTTP/1.1|Host: member|X-Zot-Cluster-Hop-Count: 1||
+HEAD /v2/lib/a/blobs/$ HTTP/1.1|Host: member|X-Zot-Cluster-Hop-Count: 1||
+DELETE /v2/lib/a/blobs/$ HTTP/1.1|Host: member|X-Zot-Cluster-Hop-Count: 1||
+POST /v2/lib/a/blobs/uploads/ HTTP/1.1|Host: member|X-Zot-Cluster-Hop-Count: 1|Content-Length: 0||
+POST /v2/lib/a/blobs/uploads/?mount=sha256%3A44136fa355b3678a1146ad16f7e8649e94fb4fc21fe77e8310c060f61caaff8a&from=lib%2Fb&digest=sha256%3Aba7816bf8f01cfea414140de5dae2223b00361a396177a9cb410ff61f20015ad HTTP/1.1|Host: member|X-Zot-Cluster-Hop-Count: 1|Content-Length: 3||abc
+PATCH /v2/lib/a/blobs/uploads/0000000000000001 HTTP/1.1|Host: member|Content-Range: 1-3|X-Zot-Cluster-Hop-Count: 1|Content-Length: 3||abc
+PUT /v2/lib/a/blobs/uploads/-?digest=sha256%3Aba7816bf8f01cfea414140de5dae2223b00361a396177a9cb410ff61f20015ad HTTP/1.1|Host: member|X-Zot-Cluster-Hop-Count: 1|Content-Length: 3||abc
+GET /v2/lib/a/blobs/uploads/0000000000000001 HTTP/1.1|Host: member|X-Zot-Cluster-Hop-Count: 1||
+PUT /v2/lib/a/manifests/v1 HTTP/1.1|Host: member|Content-Type: application/vnd.oci.image.index.v1+json|X-Zot-Cluster-Hop-Count: 1|Content-Length: 2||{}
+PUT /v2/lib/a/manifests/@ HTTP/1.1|Host: member|Content-Type: -|X-Zot-Cluster-Hop-Count: 1|Content-Length: 2||{}
+GET /v2/lib/a/manifests/@ HTTP/1.1|Host: member|X-Zot-Cluster-Hop-Count: 1||
+HEAD /v2/lib/a/manifests/v1 HTTP/1.1|Host: member|X-Zot-Cluster-Hop-Count: 1||
+DELETE /v2/lib/a/manifests/v1 HTTP/1.1|Host: member|X-Zot-Cluster-Hop-Count: 1||
+GET /v2/lib/a/tags/list HTTP/1.1|Host: member|X-Zot-Cluster-Hop-Count: 1||
+GET /v2/lib/a/tags/list?n=7&last=a+b%26%C3%BC HTTP/1.1|Host: member|X-Zot-Cluster-Hop-Count: 1||
+GET /v2/lib/a/referrers/@?artifactType=text%2Fplain HTTP/1.1|Host: member|X-Zot-Cluster-Hop-Count: 1||"#;
+
+// The bytes that a line of a table stands for.
+fn wire(alloc: Global, line: &str) -> Result<Vec<u8>, AllocError> {
+    let mut out = Vec::new(alloc);
+    for byte in line.as_bytes() {
+        match *byte {
+            b'|' => out.extend_from_slice(b"\r\n".as_slice())?,
+            b'@' => out.extend_from_slice(OBJECT.as_bytes())?,
+            b'$' => out.extend_from_slice(LETTERS.as_bytes())?,
+            other => out.push(other)?,
+        }
+    }
+    Ok(out)
+}
+
+// A request on the repository `lib/a`.
+fn asked(alloc: Global, call: Call) -> Result<Request, Fail>
+    ensures { IfOk result (λ request. request.call ≡ call) }
+{
+    let name = RepoName::read(alloc, "lib/a")?;
+    Ok(Request {
+        name: Some(name),
+        call,
+        hop: true,
+    })
+}
+
+// Whether a reply is spelled as the line says.
+fn is_spelled(
+    alloc: Global,
+    line: Option<&str>,
+    request: Option<&Request>,
+    reply: &Reply,
+    head: bool,
+    close: bool,
+) -> Result<bool, Fail>
+    requires { MayHave (option_map (λ request. request.now) request) reply.now }
+{
+    let bytes = spell_reply(alloc, request, reply, head, close)?;
+    match line {
+        Some(line) => Ok(bytes.as_slice() == wire(alloc, line)?.as_slice()),
+        None => Ok(false),
+    }
+}
+
+#[test]
+fn replies(rt: HostRuntime) -> Result<(), Fail> {
+    let alloc = rt.alloc();
+    let mut lines = REPLIES.lines();
+    let object = digest_of(b"{}");
+    let letters = digest_of(b"abc");
+    let id = UploadId::new(1);
+
+    let base = Request {
+        name: None,
+        call: Call::Base,
+        hop: false,
+    };
+    assert!(rt; is_spelled(alloc, lines.next(), Some(&base), &Reply::Base, false, false)?);
+    assert!(rt; is_spelled(alloc, lines.next(), Some(&base), &Reply::Base, true, false)?);
+
+    let get = asked(alloc, Call::GetBlob(object))?;
+    let blob = Reply::Blob {
+        digest: object,
+        bytes: Bytes::new(Vec::from_slice(alloc, b"{}")?),
+    };
+    assert!(rt; is_spelled(alloc, lines.next(), Some(&get), &blob, false, true)?);
+    let look = asked(alloc, Call::HeadBlob(letters))?;
+    let size = Reply::BlobHead {
+        digest: letters,
+        size: 3,
+    };
+    assert!(rt; is_spelled(alloc, lines.next(), Some(&look), &size, true, false)?);
+
+    let whole = asked(
+        alloc,
+        Call::Post {
+            mount: None,
+            digest: Some(letters),
+            body: Bytes::new(Vec::from_slice(alloc, b"abc")?),
+        },
+    )?;
+    let made = Reply::BlobMade { digest: letters };
+    assert!(rt; is_spelled(alloc, lines.next(), Some(&whole), &made, false, false)?);
+    let begin = asked(
+        alloc,
+        Call::Post {
+            mount: None,
+            digest: None,
+            body: Bytes::new(Vec::new(alloc)),
+        },
+    )?;
+    let begun = Reply::Session {
+        id,
+        length: 0,
+        status: 202,
+    };
+    assert!(rt; is_spelled(alloc, lines.next(), Some(&begin), &begun, false, false)?);
+    let patch = asked(
+        alloc,
+        Call::Patch {
+            id: Some(UploadId::new(255)),
+            range: None,
+            body: Bytes::new(Vec::from_slice(alloc, b"abc")?),
+        },
+    )?;
+    let grown = Reply::Session {
+        id: UploadId::new(255),
+        length: 3,
+        status: 202,
+    };
+    assert!(rt; is_spelled(alloc, lines.next(), Some(&patch), &grown, false, true)?);
+    let state = asked(alloc, Call::UploadState { id: Some(id) })?;
+    let told = Reply::Session {
+        id,
+        length: 1,
+        status: 204,
+    };
+    assert!(rt; is_spelled(alloc, lines.next(), Some(&state), &told, false, false)?);
+
+    let put = asked(
+        alloc,
+        Call::PutManifest {
+            reference: Reference::Digest(object),
+            media: None,
+            body: Bytes::new(Vec::from_slice(alloc, b"{}")?),
+        },
+    )?;
+    for subject in [None, Some(letters)] {
+        let made = Reply::ManifestMade {
+            digest: object,
+            subject,
+        };
+        assert!(rt; is_spelled(alloc, lines.next(), Some(&put), &made, false, false)?);
+    }
+    Ok(())
+}
+
+#[test]
+fn lists_and_refusals(rt: HostRuntime) -> Result<(), Fail> {
+    let alloc = rt.alloc();
+    // Behind the replies above.
+    let mut lines = REPLIES.lines().skip(10);
+    let object = digest_of(b"{}");
+    let letters = digest_of(b"abc");
+
+    let pull = asked(alloc, Call::GetManifest(Reference::Digest(object)))?;
+    let manifest = Reply::Manifest {
+        digest: object,
+        media: Media::DockerImage,
+        bytes: Bytes::new(Vec::from_slice(alloc, b"{}")?),
+    };
+    assert!(rt; is_spelled(alloc, lines.next(), Some(&pull), &manifest, false, false)?);
+    let look = asked(alloc, Call::HeadManifest(Reference::Digest(object)))?;
+    let size = Reply::ManifestHead {
+        digest: object,
+        media: Media::Image,
+        size: 2,
+    };
+    assert!(rt; is_spelled(alloc, lines.next(), Some(&look), &size, true, false)?);
+
+    let list = asked(
+        alloc,
+        Call::Tags {
+            n: None,
+            last: None,
+        },
+    )?;
+    let mut tags = Vec::new(alloc);
+    tags.push(Tag::read(alloc, "A")?)?;
+    tags.push(Tag::read(alloc, "a")?)?;
+    let all = Reply::Tags {
+        tags: TagList::new(tags),
+        next: None,
+        n: 7,
+    };
+    assert!(rt; is_spelled(alloc, lines.next(), Some(&list), &all, false, false)?);
+    let mut tags = Vec::new(alloc);
+    tags.push(Tag::read(alloc, "a")?)?;
+    let page = Reply::Tags {
+        tags: TagList::new(tags),
+        next: Some(Tag::read(alloc, "a")?),
+        n: 1,
+    };
+    assert!(rt; is_spelled(alloc, lines.next(), Some(&list), &page, false, false)?);
+    let referrers = asked(
+        alloc,
+        Call::Referrers {
+            digest: object,
+            filter: None,
+        },
+    )?;
+    for filtered in [true, false] {
+        let index = Reply::Referrers {
+            text: Bytes::new(Vec::from_slice(alloc, b"{}")?),
+            filtered,
+        };
+        assert!(rt; is_spelled(alloc, lines.next(), Some(&referrers), &index, false, false)?);
+    }
+
+    let delete = asked(alloc, Call::DeleteBlob(object))?;
+    assert!(rt;
+        is_spelled(
+            alloc,
+            lines.next(),
+            Some(&delete),
+            &Reply::Deleted,
+            false,
+            false
+        )?
+    );
+    let get = asked(alloc, Call::GetBlob(object))?;
+    let unknown = Reply::refused(404, Code::BlobUnknown);
+    assert!(rt; is_spelled(alloc, lines.next(), Some(&get), &unknown, false, false)?);
+    let look = asked(alloc, Call::HeadBlob(object))?;
+    assert!(rt; is_spelled(alloc, lines.next(), Some(&look), &unknown, true, false)?);
+    let referenced = Reply::Refused {
+        status: 405,
+        code: Code::Unsupported,
+        detail: Detail::Allow(Methods::Read),
+    };
+    assert!(rt;
+        is_spelled(
+            alloc,
+            lines.next(),
+            Some(&delete),
+            &referenced,
+            false,
+            false
+        )?
+    );
+    let patch = asked(
+        alloc,
+        Call::Patch {
+            id: Some(UploadId::new(1)),
+            range: Some(Span { start: 1, end: 2 }),
+            body: Bytes::new(Vec::from_slice(alloc, b"bc")?),
+        },
+    )?;
+    let elsewhere = Reply::Refused {
+        status: 416,
+        code: Code::BlobUploadInvalid,
+        detail: Detail::Session(UploadId::new(1), 2),
+    };
+    assert!(rt; is_spelled(alloc, lines.next(), Some(&patch), &elsewhere, false, false)?);
+    let put = asked(
+        alloc,
+        Call::PutManifest {
+            reference: Reference::Digest(object),
+            media: None,
+            body: Bytes::new(Vec::from_slice(alloc, b"{}")?),
+        },
+    )?;
+    let missing = Reply::Refused {
+        status: 400,
+        code: Code::ManifestBlobUnknown,
+        detail: Detail::Missing(letters),
+    };
+    assert!(rt; is_spelled(alloc, lines.next(), Some(&put), &missing, false, false)?);
+    let pull = asked(alloc, Call::GetManifest(Reference::Digest(object)))?;
+    let mismatch = Reply::Refused {
+        status: 502,
+        code: Code::UpstreamMismatch,
+        detail: Detail::Differ(object, letters),
+    };
+    assert!(rt; is_spelled(alloc, lines.next(), Some(&pull), &mismatch, false, false)?);
+
+    let no_method = Reply::Refused {
+        status: 405,
+        code: Code::Unsupported,
+        detail: Detail::Allow(Methods::Upload),
+    };
+    assert!(rt; is_spelled(alloc, lines.next(), None, &no_method, false, true)?);
+    let too_long = Reply::refused(431, Code::HeadTooLong);
+    assert!(rt; is_spelled(alloc, lines.next(), None, &too_long, false, true)?);
+    assert!(rt; lines.next().is_none());
+    Ok(())
+}
+
+// Whether a request is spelled as the line says.
+fn is_sent(alloc: Global, line: Option<&str>, request: &Request) -> Result<bool, Fail> {
+    let bytes = spell_request(alloc, request)?;
+    match line {
+        Some(line) => Ok(bytes.as_slice() == wire(alloc, line)?.as_slice()),
+        None => Ok(false),
+    }
+}
+
+#[test]
+fn requests(rt: HostRuntime) -> Result<(), Fail> {
+    let alloc = rt.alloc();
+    let mut lines = REQUESTS.lines();
+    let object = digest_of(b"{}");
+    let letters = digest_of(b"abc");
+    let id = Some(UploadId::new(1));
+    let base = Request {
+        name: None,
+        call: Call::Base,
+        hop: false,
+    };
+    assert!(rt; is_sent(alloc, lines.next(), &base)?);
+    let calls = [
+        Call::GetBlob(letters),
+        Call::HeadBlob(letters),
+        Call::DeleteBlob(letters),
+        Call::Post {
+            mount: None,
+            digest: None,
+            body: Bytes::new(Vec::new(alloc)),
+        },
+        Call::Post {
+            mount: Some(Mount {
+                digest: object,
+                from: Some(RepoName::read(alloc, "lib/b")?),
+            }),
+            digest: Some(letters),
+            body: Bytes::new(Vec::from_slice(alloc, b"abc")?),
+        },
+        Call::Patch {
+            id,
+            range: Some(Span { start: 1, end: 3 }),
+            body: Bytes::new(Vec::from_slice(alloc, b"abc")?),
+        },
+        Call::Finish {
+            id: None,
+            range: None,
+            digest: letters,
+            body: Bytes::new(Vec::from_slice(alloc, b"abc")?),
+        },
+        Call::UploadState { id },
+        Call::PutManifest {
+            reference: Reference::Tag(Tag::read(alloc, "v1")?),
+            media: Some(Media::Index),
+            body: Bytes::new(Vec::from_slice(alloc, b"{}")?),
+        },
+        Call::PutManifest {
+            reference: Reference::Digest(object),
+            media: None,
+            body: Bytes::new(Vec::from_slice(alloc, b"{}")?),
+        },
+        Call::GetManifest(Reference::Digest(object)),
+        Call::HeadManifest(Reference::Tag(Tag::read(alloc, "v1")?)),
+        Call::DeleteManifest(Reference::Tag(Tag::read(alloc, "v1")?)),
+        Call::Tags {
+            n: None,
+            last: None,
+        },
+        Call::Tags {
+            n: Some(7),
+            last: Some(Words::new(String::from_str(alloc, "a b&ü")?)),
+        },
+        Call::Referrers {
+            digest: object,
+            filter: Some(Words::new(String::from_str(alloc, "text/plain")?)),
+        },
+    ];
+    for call in calls {
+        let request = asked(alloc, call)?;
+        assert!(rt; is_sent(alloc, lines.next(), &request)?);
+    }
+    assert!(rt; lines.next().is_none());
+    Ok(())
+}
