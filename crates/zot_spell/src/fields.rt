@@ -122,16 +122,14 @@ pub fn push_link(
 ) -> Result<(), AllocError>
     ensures { OnOk result (out.new.items ≡ out.old.items ++ link_field name.now n next.now) }
 {
-    match next {
-        Some(tag) => {
-            let place = page_place(alloc, name, n, tag)?;
-            let mut value = Vec::from_slice(alloc, b"<".as_slice())?;
-            value.extend_from_slice(place.as_slice())?;
-            value.extend_from_slice(b">; rel=\"next\"".as_slice())?;
-            push_field(out, b"Link".as_slice(), value.as_slice())
-        }
-        None => Ok(()),
-    }
+    let Some(tag) = next else {
+        return Ok(());
+    };
+    let place = page_place(alloc, name, n, tag)?;
+    let mut value = Vec::from_slice(alloc, b"<".as_slice())?;
+    value.extend_from_slice(place.as_slice())?;
+    value.extend_from_slice(b">; rel=\"next\"".as_slice())?;
+    push_field(out, b"Link".as_slice(), value.as_slice())
 }
 
 /// Adds the field that says that a filter was applied, where it was.

@@ -22,6 +22,7 @@ const BYTE_MEDIA: &str = "application/octet-stream";
 const JSON_MEDIA: &str = "application/json";
 
 /// The bytes of a reply to a request, or to a message that asks for nothing (RFC 9112, sections 4 to 6). `head` says that the method is HEAD, whose reply has the fields of a GET's and no body, and `close` that the connection closes behind the reply. It fails only where memory does.
+#[tactic(auto, unfolding(crate::specs::Spelling::reply_bytes))]
 pub fn spell_reply(
     alloc: Global,
     request: Option<&Request>,
