@@ -80,10 +80,14 @@ upload_field id = field (codes "Docker-Upload-UUID") (upload_text id)
 unfoldable pub upload_fields : List ℕ → ℕ → ℕ → List ℕ
 upload_fields name id size = location_field (upload_place name id) ++ range_field size ++ upload_field id
 
--- the field that names the next page, where there is one (OCI Distribution Specification 1.1, "Listing Tags"; RFC 8288)
+-- the link to the page behind a tag (RFC 8288, section 3)
+unfoldable pub link_text : List ℕ → ℕ → List ℕ → List ℕ
+link_text name n tag = codes "<" ++ page_place name n tag ++ codes ">; rel=\"next\""
+
+-- the field that names the next page, where there is one (OCI Distribution Specification 1.1, "Listing Tags")
 unfoldable pub link_field : List ℕ → ℕ → Option (List ℕ) → List ℕ
 link_field name n None = []
-link_field name n (Some tag) = field (codes "Link") (codes "<" ++ page_place name n tag ++ codes ">; rel=\"next\"")
+link_field name n (Some tag) = field (codes "Link") (link_text name n tag)
 
 -- the field that says which filter was applied (OCI Distribution Specification 1.1, "Listing Referrers")
 unfoldable pub filter_field : Bool → List ℕ

@@ -58,7 +58,7 @@ fn detail_text(alloc: Global, detail: &Detail) -> Result<Option<String>, AllocEr
 }
 
 /// The body of a page of tags.
-#[tactic(auto, unfolding(crate::specs::Bodies::page_body))]
+#[tactic(auto, using(crate::proofs::BodyLemmas::page_plain), unfolding(crate::specs::Bodies::page_body))]
 pub fn page_body(alloc: Global, name: &str, tags: &[Tag]) -> Result<String, AllocError>
     ensures { IfOk result (λ body. string_bytes body ≡ page_body name.now tags.now) }
 {

@@ -1,6 +1,7 @@
 //! Field lines.
-ghost use Rattle.std.specs.Prelude.{◌≡◌, ◌++◌, OnOk, IfOk, option_map};
-ghost use Rattle.zot_spell.specs.Fields.{allow_field, closing_field, digest_field, field, filter_field, length_field, link_field, location_field, methods_text, range_field, range_text, size_field, subject_field, type_field, upload_field, upload_fields, version_field};
+ghost use Rattle.std.specs.Prelude.{◌≡◌, ◌++◌, OnOk, IfOk};
+ghost use Rattle.std.specs.Option.{option_copied};
+ghost use Rattle.zot_spell.specs.Fields.{allow_field, closing_field, digest_field, field, filter_field, length_field, link_field, link_text, location_field, methods_text, range_field, range_text, size_field, subject_field, type_field, upload_field, upload_fields, version_field};
 
 use crate::places::{page_place, upload_place};
 use std::alloc::{AllocError, Global};
@@ -125,11 +126,20 @@ pub fn push_link(
     let Some(tag) = next else {
         return Ok(());
     };
-    let place = page_place(alloc, name, n, tag)?;
-    let mut value = Vec::from_slice(alloc, b"<".as_slice())?;
-    value.extend_from_slice(place.as_slice())?;
-    value.extend_from_slice(b">; rel=\"next\"".as_slice())?;
+    let value = link_text(alloc, name, n, tag)?;
     push_field(out, b"Link".as_slice(), value.as_slice())
+}
+
+// The link to the next page.
+#[tactic(auto, unfolding(crate::specs::Fields::link_text))]
+fn link_text(alloc: Global, name: &str, n: u64, tag: &Tag) -> Result<Vec<u8>, AllocError>
+    ensures { IfOk result (λ text. text.items ≡ link_text name.now n tag.now) }
+{
+    let place = page_place(alloc, name, n, tag)?;
+    let mut text = Vec::from_slice(alloc, b"<".as_slice())?;
+    text.extend_from_slice(place.as_slice())?;
+    text.extend_from_slice(b">; rel=\"next\"".as_slice())?;
+    Ok(text)
 }
 
 /// Adds the field that says that a filter was applied, where it was.
@@ -174,7 +184,7 @@ fn methods_text(which: Methods) -> &'static [u8]
 /// Adds the field that names the media of a body, where there is one.
 #[tactic(auto, unfolding(crate::specs::Fields::type_field))]
 pub fn push_type(out: &mut Vec<u8>, media: Option<&str>) -> Result<(), AllocError>
-    ensures { OnOk result (out.new.items ≡ out.old.items ++ type_field (option_map (λ m. m.now) media)) }
+    ensures { OnOk result (out.new.items ≡ out.old.items ++ type_field (option_copied media.entry)) }
 {
     match media {
         Some(media) => push_field(out, b"Content-Type".as_slice(), media.as_bytes()),

@@ -1,7 +1,8 @@
 //! Replies as they stand on the wire.
-ghost use Rattle.std.specs.Prelude.{◌≡◌, ◌++◌, length, Some, None, OnOk, IfOk, option_map};
+ghost use Rattle.std.specs.Prelude.{◌≡◌, ◌++◌, length, Some, None, OnOk, IfOk};
+ghost use Rattle.std.specs.Option.{option_copied};
 ghost use Rattle.zot_spell.specs.Fields.{blob_place, digest_field, location_field, manifest_place, subject_field};
-ghost use Rattle.zot_spell.specs.Spelling.{HasStatus, MayHave, base_body, body_lines, json_media, name_in, parts_of, refusal_fields, reply_bytes, rest_of, shown_body, spelled};
+ghost use Rattle.zot_spell.specs.Spelling.{HasStatus, MayHave, base_body, body_lines, byte_media, json_media, name_in, parts_of, refusal_fields, reply_bytes, rest_of, shown_body, spelled};
 
 use crate::bodies::{error_body, page_body};
 use crate::fields::{
@@ -15,12 +16,6 @@ use zot_digest::Digest;
 use zot_media::Media;
 use zot_model::{Detail, Reply, Request};
 
-/// The media of a body of bytes.
-const BYTE_MEDIA: &str = "application/octet-stream";
-
-/// The media of a body of JSON.
-const JSON_MEDIA: &str = "application/json";
-
 /// The bytes of a reply to a request, or to a message that asks for nothing (RFC 9112, sections 4 to 6). `head` says that the method is HEAD, whose reply has the fields of a GET's and no body, and `close` that the connection closes behind the reply. It fails only where memory does.
 #[tactic(auto, unfolding(crate::specs::Spelling::reply_bytes))]
 pub fn spell_reply(
@@ -30,9 +25,9 @@ pub fn spell_reply(
     head: bool,
     close: bool,
 ) -> Result<Vec<u8>, AllocError>
-    requires { MayHave (option_map (λ request. request.now) request) reply.now }
+    requires { MayHave (option_copied request) reply.now }
     ensures { IfOk result (λ bytes. bytes.items
-        ≡ reply_bytes (option_map (λ request. request.now) request) reply.now head close) }
+        ≡ reply_bytes (option_copied request.entry) reply.now head close) }
 {
     let name = name_of(request);
     spell(alloc, name, reply, head, close)
@@ -40,7 +35,7 @@ pub fn spell_reply(
 
 // The name of a request's repository, or no text.
 fn name_of<'a>(request: Option<&'a Request>) -> &'a str
-    ensures { result.now ≡ name_in (option_map (λ request. request.now) request) }
+    ensures { result.now ≡ name_in (option_copied request.entry) }
 {
     match request {
         Some(request) => match &request.name {
@@ -157,7 +152,7 @@ fn push_refusal(
 }
 
 // Adds what stands behind a reply's own fields.
-#[tactic(auto, unfolding(crate::specs::Spelling::rest_of, crate::specs::Spelling::parts_of))]
+#[tactic(auto, using(crate::proofs::RestLemmas::bodiless), unfolding(crate::specs::Spelling::rest_of, crate::specs::Spelling::parts_of))]
 fn push_rest(
     alloc: Global,
     out: &mut Vec<u8>,
@@ -172,9 +167,9 @@ fn push_rest(
     match reply {
         Reply::Base => push_base(alloc, out, head, close),
         Reply::Blob { bytes, .. } => {
-            push_whole(alloc, out, 200, BYTE_MEDIA, bytes.as_slice(), head, close)
+            push_whole(alloc, out, 200, byte_media(), bytes.as_slice(), head, close)
         }
-        Reply::BlobHead { size, .. } => push_sized(alloc, out, BYTE_MEDIA, *size, close),
+        Reply::BlobHead { size, .. } => push_sized(alloc, out, byte_media(), *size, close),
         Reply::BlobMade { .. } | Reply::ManifestMade { .. } => {
             push_bodiless(alloc, out, 201, close)
         }
@@ -187,7 +182,7 @@ fn push_rest(
         }
         Reply::Tags { tags, .. } => {
             let body = page_body(alloc, name, tags.as_slice())?;
-            push_whole(alloc, out, 200, JSON_MEDIA, body.as_bytes(), head, close)
+            push_whole(alloc, out, 200, json_media(), body.as_bytes(), head, close)
         }
         Reply::Referrers { text, .. } => {
             push_whole(
@@ -211,7 +206,7 @@ fn push_rest(
                 alloc,
                 out,
                 *status,
-                JSON_MEDIA,
+                json_media(),
                 body.as_bytes(),
                 head,
                 close,
@@ -221,11 +216,12 @@ fn push_rest(
 }
 
 // Adds the lines of the base route's body, and the body.
+#[tactic(auto, unfolding(crate::specs::Spelling::base_body))]
 fn push_base(alloc: Global, out: &mut Vec<u8>, head: bool, close: bool) -> Result<(), AllocError>
     ensures { OnOk result (out.new.items ≡ out.old.items
         ++ (body_lines 200 (Some json_media) (length base_body) close ++ shown_body head base_body)) }
 {
-    push_whole(alloc, out, 200, JSON_MEDIA, b"{}".as_slice(), head, close)
+    push_whole(alloc, out, 200, json_media(), b"{}".as_slice(), head, close)
 }
 
 // Adds the lines of a body, and the body where the method isn't HEAD.
@@ -281,7 +277,7 @@ fn push_lines(
     close: bool,
 ) -> Result<(), AllocError>
     ensures { OnOk result (out.new.items
-        ≡ out.old.items ++ body_lines status (option_map (λ media. media.now) media) size close) }
+        ≡ out.old.items ++ body_lines status (option_copied media.entry) size close) }
 {
     push_type(out, media)?;
     push_length(alloc, out, status, size)?;
@@ -299,4 +295,20 @@ fn push_shown(out: &mut Vec<u8>, head: bool, body: &[u8]) -> Result<(), AllocErr
     } else {
         out.extend_from_slice(body)
     }
+}
+
+// The media of a body of bytes.
+#[tactic(auto, unfolding(crate::specs::Spelling::byte_media))]
+fn byte_media() -> &'static str
+    ensures { result.now ≡ byte_media }
+{
+    "application/octet-stream"
+}
+
+// The media of a body of JSON.
+#[tactic(auto, unfolding(crate::specs::Spelling::json_media))]
+fn json_media() -> &'static str
+    ensures { result.now ≡ json_media }
+{
+    "application/json"
 }

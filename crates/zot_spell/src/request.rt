@@ -1,5 +1,6 @@
 //! Requests as they stand on the wire.
-ghost use Rattle.std.specs.Prelude.{◌≡◌, ◌++◌, [], OnOk, IfOk, option_map, unwrap_or};
+ghost use Rattle.std.specs.Prelude.{◌≡◌, ◌++◌, [], OnOk, IfOk, unwrap_or};
+ghost use Rattle.std.specs.Option.{option_copied};
 ghost use Rattle.zot_digest.specs.Digest.{digest_text};
 ghost use Rattle.zot_spell.specs.Fields.{crlf};
 ghost use Rattle.zot_spell.specs.Wire.{body_field, body_in, hop_field, host_field, id_text, media_in, method_text, path_of, query_text, range_in, reference_text, request_bytes, request_line, span_field, span_text, target_text};
@@ -164,7 +165,7 @@ fn push_host(out: &mut Vec<u8>) -> Result<(), AllocError>
 // The media of a pushed manifest, or `-` where they aren't known.
 #[tactic(auto, unfolding(crate::specs::Wire::media_in, crate::specs::Wire::media_value))]
 fn media_in(call: &Call) -> Option<&'static str>
-    ensures { option_map (λ media. media.now) result ≡ media_in call.now }
+    ensures { option_copied result ≡ media_in call.now }
 {
     match call {
         Call::PutManifest { media, .. } => match media {
@@ -227,7 +228,7 @@ fn push_hop(out: &mut Vec<u8>, hop: bool) -> Result<(), AllocError>
 // The body of a call whose method has one.
 #[tactic(auto, unfolding(crate::specs::Wire::body_in))]
 fn body_in(call: &Call) -> Option<&[u8]>
-    ensures { option_map (λ body. body.now) result ≡ body_in call.now }
+    ensures { option_copied result ≡ body_in call.now }
 {
     match call {
         Call::Post { body, .. }
@@ -241,8 +242,8 @@ fn body_in(call: &Call) -> Option<&[u8]>
 // Adds the field of a body's size, an empty line and the body.
 #[tactic(auto, unfolding(crate::specs::Wire::body_field))]
 fn push_end(alloc: Global, out: &mut Vec<u8>, body: Option<&[u8]>) -> Result<(), AllocError>
-    ensures { OnOk result (out.new.items ≡ out.old.items ++ (body_field (option_map (λ body. body.now) body)
-        ++ (crlf ++ unwrap_or (option_map (λ body. body.now) body) []))) }
+    ensures { OnOk result (out.new.items ≡ out.old.items ++ (body_field (option_copied body.entry)
+        ++ (crlf ++ unwrap_or (option_copied body.entry) []))) }
 {
     match body {
         Some(body) => {
