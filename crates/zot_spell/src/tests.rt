@@ -80,11 +80,11 @@ fn is_spelled(
     alloc: Global,
     line: Option<&str>,
     call: Call,
-    reply: &Reply,
+    reply: Reply,
     head: bool,
     close: bool,
 ) -> Result<bool, Fail>
-    requires { FitsCall call reply.now }
+    requires { FitsCall call reply }
 {
     let name = RepoName::read(alloc, "lib/a")?;
     let request = Request {
@@ -92,7 +92,7 @@ fn is_spelled(
         call,
         hop: true,
     };
-    let bytes = spell_reply(alloc, Some(&request), reply, head, close)?;
+    let bytes = spell_reply(alloc, Some(&request), &reply, head, close)?;
     is_line(alloc, line, bytes.as_slice())
 }
 
@@ -130,14 +130,13 @@ fn bytes(alloc: Global, text: &[u8]) -> Result<Bytes, AllocError> {
 }
 
 #[test]
-fn blobs_and_uploads(rt: HostRuntime) -> Result<(), Fail> {
+fn blobs(rt: HostRuntime) -> Result<(), Fail> {
     let alloc = rt.alloc();
     let mut lines = REPLIES.lines();
     let object = digest_of(b"{}");
     let letters = digest_of(b"abc");
-    let id = UploadId::new(1);
-    assert!(rt; is_spelled(alloc, lines.next(), Call::Base, &Reply::Base, false, false)?);
-    assert!(rt; is_spelled(alloc, lines.next(), Call::Base, &Reply::Base, true, false)?);
+    assert!(rt; is_spelled(alloc, lines.next(), Call::Base, Reply::Base, false, false)?);
+    assert!(rt; is_spelled(alloc, lines.next(), Call::Base, Reply::Base, true, false)?);
     let blob = Reply::Blob {
         digest: object,
         bytes: bytes(alloc, b"{}")?,
@@ -147,7 +146,7 @@ fn blobs_and_uploads(rt: HostRuntime) -> Result<(), Fail> {
             alloc,
             lines.next(),
             Call::GetBlob(object),
-            &blob,
+            blob,
             false,
             true
         )?
@@ -161,7 +160,7 @@ fn blobs_and_uploads(rt: HostRuntime) -> Result<(), Fail> {
             alloc,
             lines.next(),
             Call::HeadBlob(letters),
-            &size,
+            size,
             true,
             false
         )?
@@ -172,7 +171,16 @@ fn blobs_and_uploads(rt: HostRuntime) -> Result<(), Fail> {
         digest: Some(letters),
         body: bytes(alloc, b"abc")?,
     };
-    assert!(rt; is_spelled(alloc, lines.next(), whole, &made, false, false)?);
+    assert!(rt; is_spelled(alloc, lines.next(), whole, made, false, false)?);
+    Ok(())
+}
+
+#[test]
+fn uploads(rt: HostRuntime) -> Result<(), Fail> {
+    let alloc = rt.alloc();
+    // Behind the replies above.
+    let mut lines = REPLIES.lines().skip(5);
+    let id = UploadId::new(1);
     let begun = Reply::Session {
         id,
         length: 0,
@@ -183,7 +191,7 @@ fn blobs_and_uploads(rt: HostRuntime) -> Result<(), Fail> {
         digest: None,
         body: bytes(alloc, b"")?,
     };
-    assert!(rt; is_spelled(alloc, lines.next(), begin, &begun, false, false)?);
+    assert!(rt; is_spelled(alloc, lines.next(), begin, begun, false, false)?);
     let grown = Reply::Session {
         id: UploadId::new(255),
         length: 3,
@@ -194,14 +202,14 @@ fn blobs_and_uploads(rt: HostRuntime) -> Result<(), Fail> {
         range: None,
         body: bytes(alloc, b"abc")?,
     };
-    assert!(rt; is_spelled(alloc, lines.next(), patch, &grown, false, true)?);
+    assert!(rt; is_spelled(alloc, lines.next(), patch, grown, false, true)?);
     let told = Reply::Session {
         id,
         length: 1,
         status: 204,
     };
     let state = Call::UploadState { id: Some(id) };
-    assert!(rt; is_spelled(alloc, lines.next(), state, &told, false, false)?);
+    assert!(rt; is_spelled(alloc, lines.next(), state, told, false, false)?);
     Ok(())
 }
 
@@ -221,7 +229,7 @@ fn manifests_and_lists(rt: HostRuntime) -> Result<(), Fail> {
             media: None,
             body: bytes(alloc, b"{}")?,
         };
-        assert!(rt; is_spelled(alloc, lines.next(), put, &made, false, false)?);
+        assert!(rt; is_spelled(alloc, lines.next(), put, made, false, false)?);
     }
     let manifest = Reply::Manifest {
         digest: object,
@@ -229,14 +237,14 @@ fn manifests_and_lists(rt: HostRuntime) -> Result<(), Fail> {
         bytes: bytes(alloc, b"{}")?,
     };
     let get = Call::GetManifest(Reference::Digest(object));
-    assert!(rt; is_spelled(alloc, lines.next(), get, &manifest, false, false)?);
+    assert!(rt; is_spelled(alloc, lines.next(), get, manifest, false, false)?);
     let size = Reply::ManifestHead {
         digest: object,
         media: Media::Image,
         size: 2,
     };
     let look = Call::HeadManifest(Reference::Digest(object));
-    assert!(rt; is_spelled(alloc, lines.next(), look, &size, true, false)?);
+    assert!(rt; is_spelled(alloc, lines.next(), look, size, true, false)?);
     let mut tags = Vec::new(alloc);
     tags.push(Tag::read(alloc, "A")?)?;
     tags.push(Tag::read(alloc, "a")?)?;
@@ -249,7 +257,7 @@ fn manifests_and_lists(rt: HostRuntime) -> Result<(), Fail> {
         n: None,
         last: None,
     };
-    assert!(rt; is_spelled(alloc, lines.next(), list, &all, false, false)?);
+    assert!(rt; is_spelled(alloc, lines.next(), list, all, false, false)?);
     let mut tags = Vec::new(alloc);
     tags.push(Tag::read(alloc, "a")?)?;
     let page = Reply::Tags {
@@ -261,7 +269,7 @@ fn manifests_and_lists(rt: HostRuntime) -> Result<(), Fail> {
         n: Some(1),
         last: None,
     };
-    assert!(rt; is_spelled(alloc, lines.next(), list, &page, false, false)?);
+    assert!(rt; is_spelled(alloc, lines.next(), list, page, false, false)?);
     for filtered in [true, false] {
         let index = Reply::Referrers {
             text: bytes(alloc, b"{}")?,
@@ -271,10 +279,10 @@ fn manifests_and_lists(rt: HostRuntime) -> Result<(), Fail> {
             digest: object,
             filter: None,
         };
-        assert!(rt; is_spelled(alloc, lines.next(), referrers, &index, false, false)?);
+        assert!(rt; is_spelled(alloc, lines.next(), referrers, index, false, false)?);
     }
     let delete = Call::DeleteBlob(object);
-    assert!(rt; is_spelled(alloc, lines.next(), delete, &Reply::Deleted, false, false)?);
+    assert!(rt; is_spelled(alloc, lines.next(), delete, Reply::Deleted, false, false)?);
     Ok(())
 }
 
@@ -284,24 +292,24 @@ fn refusals(rt: HostRuntime) -> Result<(), Fail> {
     // Behind the replies above.
     let mut lines = REPLIES.lines().skip(17);
     let object = digest_of(b"{}");
-    let letters = digest_of(b"abc");
     let unknown = Reply::refused(404, Code::BlobUnknown);
     assert!(rt;
         is_spelled(
             alloc,
             lines.next(),
             Call::GetBlob(object),
-            &unknown,
+            unknown,
             false,
             false
         )?
     );
+    let unknown = Reply::refused(404, Code::BlobUnknown);
     assert!(rt;
         is_spelled(
             alloc,
             lines.next(),
             Call::HeadBlob(object),
-            &unknown,
+            unknown,
             true,
             false
         )?
@@ -316,7 +324,7 @@ fn refusals(rt: HostRuntime) -> Result<(), Fail> {
             alloc,
             lines.next(),
             Call::DeleteBlob(object),
-            &referenced,
+            referenced,
             false,
             false
         )?
@@ -331,7 +339,17 @@ fn refusals(rt: HostRuntime) -> Result<(), Fail> {
         range: Some(Span { start: 1, end: 2 }),
         body: bytes(alloc, b"bc")?,
     };
-    assert!(rt; is_spelled(alloc, lines.next(), patch, &elsewhere, false, false)?);
+    assert!(rt; is_spelled(alloc, lines.next(), patch, elsewhere, false, false)?);
+    Ok(())
+}
+
+#[test]
+fn refusals_with_details(rt: HostRuntime) -> Result<(), Fail> {
+    let alloc = rt.alloc();
+    // Behind the replies above.
+    let mut lines = REPLIES.lines().skip(21);
+    let object = digest_of(b"{}");
+    let letters = digest_of(b"abc");
     let missing = Reply::Refused {
         status: 400,
         code: Code::ManifestBlobUnknown,
@@ -342,14 +360,14 @@ fn refusals(rt: HostRuntime) -> Result<(), Fail> {
         media: None,
         body: bytes(alloc, b"{}")?,
     };
-    assert!(rt; is_spelled(alloc, lines.next(), put, &missing, false, false)?);
+    assert!(rt; is_spelled(alloc, lines.next(), put, missing, false, false)?);
     let mismatch = Reply::Refused {
         status: 502,
         code: Code::UpstreamMismatch,
         detail: Detail::Differ(object, letters),
     };
     let get = Call::GetManifest(Reference::Digest(object));
-    assert!(rt; is_spelled(alloc, lines.next(), get, &mismatch, false, false)?);
+    assert!(rt; is_spelled(alloc, lines.next(), get, mismatch, false, false)?);
     let no_method = Reply::Refused {
         status: 405,
         code: Code::Unsupported,
