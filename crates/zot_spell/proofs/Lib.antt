@@ -1,3 +1,5 @@
+pub mod AlikeLemmas
 pub mod BodyLemmas
 pub mod FitLemmas
+pub mod PlainLemmas
 pub mod RestLemmas

@@ -2,4 +2,5 @@ pub mod Codes
 pub mod Fields
 pub mod Bodies
 pub mod Spelling
+pub mod Alike
 pub mod Wire

@@ -4,6 +4,7 @@
 mod bodies;
 mod codes;
 mod fields;
+mod laws;
 mod places;
 mod query;
 mod reply;
@@ -12,5 +13,6 @@ mod status;
 #[cfg(test)]
 mod tests;
 
+pub use crate::laws::alike_replies;
 pub use crate::reply::spell_reply;
 pub use crate::request::spell_request;
