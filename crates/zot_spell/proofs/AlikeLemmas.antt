@@ -45,7 +45,7 @@ plain_found : IsPlain (codes " found ")
 unfolding escape_byte
 plain_found = (refl, (refl, (refl, (refl, (refl, (refl, (refl, tt)))))))
 
-digest_length : (digest : List ℕ) → IsDigest digest → length (digest_text digest) ≡ 71
+pub digest_length : (digest : List ℕ) → IsDigest digest → length (digest_text digest) ≡ 71
 unfolding digest_text
 digest_length digest is = rw (length-append) (omega (arith, length-encode_with lower_digits digest, is.long))
 

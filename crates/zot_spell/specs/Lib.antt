@@ -3,4 +3,5 @@ pub mod Fields
 pub mod Bodies
 pub mod Spelling
 pub mod Alike
+pub mod Reading
 pub mod Wire

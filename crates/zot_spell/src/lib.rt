@@ -7,6 +7,7 @@ mod fields;
 mod laws;
 mod places;
 mod query;
+mod reading;
 mod reply;
 mod request;
 mod status;
