@@ -1,6 +1,7 @@
 pub mod AlikeLemmas
 pub mod BodyLemmas
 pub mod FitLemmas
+pub mod FoundLemmas
 pub mod PlainLemmas
 pub mod ReadingLemmas
 pub mod RestLemmas

@@ -28,9 +28,9 @@ pub before_end : (end : ℕ) (text rest : List ℕ) → IsFree end text → befo
 before_end end text rest free =
     let all = text ++ (end ∷ rest) in
     let place : position_or_len (λ (b : ℕ). b == end) all ≡ length text =
-        position_or_len_is (λ (b : ℕ). b == end) all (length text) 0 (simp length-append (omega arith))
-        (λ k lt. rw (get_or-append text (end ∷ rest) 0 k lt) (free k lt))
-        (λ lt. rw (at_seam text rest end) (grind (arith, nat_tests))) in
+    position_or_len_is (λ (b : ℕ). b == end) all (length text) 0 (simp length-append (omega arith))
+    (λ k lt. rw (get_or-append text (end ∷ rest) 0 k lt) (free k lt))
+    (λ lt. rw (at_seam text rest end) (grind (arith, nat_tests))) in
     rw place (take-append_seam text (end ∷ rest))
 
 apart : (end c : ℕ) → end < 48 → 48 ≤ c → (c == end) ≡ false

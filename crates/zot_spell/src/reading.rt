@@ -28,6 +28,14 @@ pub fn behind<'a>(bytes: &'a [u8], front: &[u8]) -> Option<&'a [u8]>
     if start == front { Some(rest) } else { None }
 }
 
+/// How many bytes there are, which fits 64 bits.
+pub fn size_of(bytes: &[u8]) -> u64
+    ensures value { result ≡ length bytes.now }
+    ensures fits { length bytes.now < 2 ^ 64 }
+{
+    bytes.len() as u64
+}
+
 // The first bytes, where there are so many.
 fn first_bytes(bytes: &[u8], count: usize) -> Option<&[u8]>
     ensures { (text rest : List ℕ) → length text ≡ count → bytes.now ≡ text ++ rest → option_copied result ≡ Some text }

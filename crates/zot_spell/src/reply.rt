@@ -48,7 +48,7 @@ fn name_of<'a>(request: Option<&'a Request>) -> &'a str
 
 // The bytes of a reply to a request on the repository of this name.
 #[tactic(auto, unfolding(crate::specs::Spelling::spelled))]
-fn spell(
+pub fn spell(
     alloc: Global,
     name: &str,
     reply: &Reply,
@@ -268,7 +268,7 @@ fn push_bodiless(
 
 // Adds the lines behind a reply's own fields, through the empty line.
 #[tactic(auto, unfolding(crate::specs::Spelling::body_lines))]
-fn push_lines(
+pub fn push_lines(
     alloc: Global,
     out: &mut Vec<u8>,
     status: u16,
@@ -299,7 +299,7 @@ fn push_shown(out: &mut Vec<u8>, head: bool, body: &[u8]) -> Result<(), AllocErr
 
 // The media of a body of bytes.
 #[tactic(auto, unfolding(crate::specs::Spelling::byte_media))]
-fn byte_media() -> &'static str
+pub fn byte_media() -> &'static str
     ensures { result.now ≡ byte_media }
 {
     "application/octet-stream"
@@ -307,7 +307,7 @@ fn byte_media() -> &'static str
 
 // The media of a body of JSON.
 #[tactic(auto, unfolding(crate::specs::Spelling::json_media))]
-fn json_media() -> &'static str
+pub fn json_media() -> &'static str
     ensures { result.now ≡ json_media }
 {
     "application/json"

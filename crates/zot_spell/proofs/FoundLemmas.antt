@@ -1,0 +1,93 @@
+-- What the bytes of each kind of reply are, piece by piece.
+use Rattle.std.proofs.Common.{◌≡◌, ℕ, ◌+◌, ◌<◌, ◌≤◌, ◌^◌, ◌==◌, arith, Bool, true, false, List, [], ◌∷◌, ◌++◌, length, Option, Some, None, refl, sym, ap, subst, ◌∙◌}
+use Rattle.std.specs.Prelude.{IfOk, Result, Ok, Err, codes}
+use Rattle.std.specs.Borrow.{Bor}
+use Rattle.std.specs.Fmt.{decimal}
+use Rattle.std.specs.Option.{option_copied}
+use Rattle.std.proofs.lemmas.List.{append_assoc, length-append}
+use Rattle.zot_digest.specs.Digest.{IsDigest, digest_text}
+use Rattle.zot_model.specs.declared.reply.Reply.{Reply}
+use Rattle.zot_model.specs.declared.reply.Reply.TheVariants as replies
+use Rattle.zot_spell.specs.Fields.{closing_field, crlf, digest_field, length_field, size_field, status_line, type_field}
+use Rattle.zot_spell.specs.Reading.{Confirms, Finds, IsBlob, IsBlobHead, IsReal}
+use Rattle.zot_spell.specs.Spelling.{body_lines, byte_media, parts_of, rest_of, shown_body, spelled}
+
+pub for_blob : (P : Reply → Type 0) → ((digest bytes : List ℕ) → P (replies.Blob digest bytes)) → (reply : Reply) → IsBlob reply → P reply
+for_blob P f (replies.Blob digest bytes) h = f digest bytes
+for_blob P f reply h = absurd h
+
+pub for_blob_head : (P : Reply → Type 0) → ((digest : List ℕ) (size : ℕ) → P (replies.BlobHead digest size)) → (reply : Reply) → IsBlobHead reply → P reply
+for_blob_head P f (replies.BlobHead digest size) h = f digest size
+for_blob_head P f reply h = absurd h
+
+pub blob_bytes : (name digest body : List ℕ) (close : Bool)
+    → spelled (parts_of name (replies.Blob digest body)) false close ≡ status_line 200 ++ (digest_field digest ++ (body_lines 200 (Some byte_media) (length body) close ++ body))
+unfolding spelled parts_of rest_of shown_body
+blob_bytes name digest body close = append_assoc (status_line 200) (digest_field digest) _
+
+pub blob_head_bytes : (name digest : List ℕ) (size : ℕ) (close : Bool)
+    → spelled (parts_of name (replies.BlobHead digest size)) true close ≡ status_line 200 ++ (digest_field digest ++ (body_lines 200 (Some byte_media) size close ++ []))
+unfolding spelled parts_of rest_of shown_body
+blob_head_bytes name digest size close = append_assoc (status_line 200) (digest_field digest) _
+
+-- behind the front that ends with a field's name stands its value
+pub digest_place : (start digest rest : List ℕ)
+    → start ++ (digest_field digest ++ rest) ≡ (start ++ codes "Docker-Content-Digest: ") ++ (digest_text digest ++ (13 ∷ (10 ∷ rest)))
+unfolding digest_field
+digest_place start digest rest = simp append_assoc
+
+pub size_place : (start media rest : List ℕ) (size : ℕ)
+    → start ++ (type_field (Some media) ++ (size_field size ++ rest)) ≡ ((start ++ type_field (Some media)) ++ codes "Content-Length: ") ++ (decimal size ++ (13 ∷ (10 ∷ rest)))
+unfolding size_field
+size_place start media rest size = simp append_assoc
+
+pub body_place : (status : ℕ) (media : List ℕ) (size : ℕ) (close : Bool) (rest : List ℕ) → (status == 204) ≡ false
+    → body_lines status (Some media) size close ++ rest ≡ type_field (Some media) ++ (size_field size ++ ((closing_field close ++ crlf) ++ rest))
+unfolding body_lines length_field
+body_place status media size close rest h = simp (h, append_assoc)
+
+pub blob_place : (name digest body bytes start media : List ℕ) (close : Bool) → bytes ≡ spelled (parts_of name (replies.Blob digest body)) false close
+    → start ≡ status_line 200 ++ digest_field digest → media ≡ byte_media → bytes ≡ start ++ (body_lines 200 (Some media) (length body) close ++ body)
+blob_place name digest body bytes start media close e s m = rw (s, m) (e ∙ blob_bytes name digest body close ∙ sym (append_assoc (status_line 200) (digest_field digest) _))
+
+pub none_copied : (found : Option (Bor (List ℕ))) (x : List ℕ) {P : Type 0} → option_copied found ≡ Some x → found ≡ None → P
+none_copied found x e h = let n : option_copied found ≡ None = ap option_copied h in cc
+
+pub some_copied : (found : Option (Bor (List ℕ))) (x : List ℕ) (r : Bor (List ℕ)) → option_copied found ≡ Some x → found ≡ Some r → r.now ≡ x
+some_copied found x r e h = let s : option_copied found ≡ Some r.now = ap option_copied h in cc
+
+pub body_small : (bytes start lines body : List ℕ) → bytes ≡ start ++ (lines ++ body) → length bytes < 2 ^ 64 → length body < 2 ^ 64
+body_small bytes start lines body e small = omega (arith, small, simp length-append at (ap length e))
+
+pub body_short : (bytes start lines body : List ℕ) → bytes ≡ start ++ (lines ++ body) → length body ≤ length bytes
+body_short bytes start lines body e = omega (arith, simp length-append at (ap length e))
+
+-- what holds of a digest found behind the status line holds of the digest of the whole reply
+pub digest_of_blob_head : (name digest bytes : List ℕ) (size : ℕ) (close : Bool) (found : Option (List ℕ))
+    → ((d rest : List ℕ) → IsDigest d → bytes ≡ status_line 200 ++ (digest_field d ++ rest) → found ≡ Some d)
+    → IsDigest digest → bytes ≡ spelled (parts_of name (replies.BlobHead digest size)) true close → found ≡ Some digest
+digest_of_blob_head name digest bytes size close found h is e =
+    h digest (body_lines 200 (Some byte_media) size close ++ []) is (e ∙ blob_head_bytes name digest size close)
+
+pub size_of_blob_head : (name digest bytes start media : List ℕ) (size : ℕ) (close : Bool) → bytes ≡ spelled (parts_of name (replies.BlobHead digest size)) true close
+    → start ≡ status_line 200 ++ digest_field digest → media ≡ byte_media
+    → bytes ≡ start ++ (type_field (Some media) ++ (size_field size ++ ((closing_field close ++ crlf) ++ [])))
+size_of_blob_head name digest bytes start media size close e s m =
+    rw (s, m) (e ∙ blob_head_bytes name digest size close ∙ sym (append_assoc (status_line 200) (digest_field digest) _)
+    ∙ ap (λ (t : List ℕ). (status_line 200 ++ digest_field digest) ++ t) (body_place 200 byte_media size close [] refl))
+
+-- ---- what is confirmed is found
+
+pub finds : (Kind : Reply → Type 0) (name : List ℕ) (head close : Bool) (bytes : List ℕ) (reply : Reply) (found : Option Reply)
+    → Confirms name head close bytes reply found → Kind reply
+    → ((other : Reply) → IsReal other → Kind other → bytes ≡ spelled (parts_of name other) head close → bytes ≡ spelled (parts_of name reply) head close)
+    → Finds Kind name head close bytes found
+finds Kind name head close bytes reply (Some other) c kind covers = (subst Kind (sym c.0) kind, c.1 ∙ ap (λ (r : Reply). spelled (parts_of name r) head close) (sym c.0))
+finds Kind name head close bytes reply None c kind covers = λ other real k e. c (covers other real k e)
+
+pub finds_ok : {E : Type 0} (Kind : Reply → Type 0) (name : List ℕ) (head close : Bool) (bytes : List ℕ) (reply : Reply) (result : Result (Option Reply) E)
+    → IfOk result (Confirms name head close bytes reply) → Kind reply
+    → ((other : Reply) → IsReal other → Kind other → bytes ≡ spelled (parts_of name other) head close → bytes ≡ spelled (parts_of name reply) head close)
+    → IfOk result (Finds Kind name head close bytes)
+finds_ok Kind name head close bytes reply (Ok found) h kind covers = finds Kind name head close bytes reply found h kind covers
+finds_ok Kind name head close bytes reply (Err e) h kind covers = tt
