@@ -6,11 +6,16 @@ use Rattle.std.specs.Fmt.{decimal}
 use Rattle.std.specs.Option.{option_copied}
 use Rattle.std.proofs.lemmas.List.{append_assoc, length-append}
 use Rattle.zot_digest.specs.Digest.{IsDigest, digest_text}
+use Rattle.zot_media.specs.declared.media.Media.{Media}
+use Rattle.zot_media.specs.Media.{media_text}
 use Rattle.zot_model.specs.declared.reply.Reply.{Reply}
 use Rattle.zot_model.specs.declared.reply.Reply.TheVariants as replies
 use Rattle.zot_spell.specs.Fields.{closing_field, crlf, digest_field, length_field, size_field, status_line, type_field}
-use Rattle.zot_spell.specs.Reading.{Confirms, Finds, IsBlob, IsBlobHead, IsReal}
+use Rattle.zot_spell.specs.Reading.{Confirms, Finds, IsBlob, IsBlobHead, IsManifest, IsManifestHead, IsReal}
 use Rattle.zot_spell.specs.Spelling.{body_lines, byte_media, parts_of, rest_of, shown_body, spelled}
+
+pub ap₃ : {A B C D : Type 0} (f : A → B → C → D) {a x : A} {b y : B} {c z : C} → a ≡ x → b ≡ y → c ≡ z → f a b c ≡ f x y z
+ap₃ f p q r = cc
 
 pub for_blob : (P : Reply → Type 0) → ((digest bytes : List ℕ) → P (replies.Blob digest bytes)) → (reply : Reply) → IsBlob reply → P reply
 for_blob P f (replies.Blob digest bytes) h = f digest bytes
@@ -75,6 +80,53 @@ pub size_of_blob_head : (name digest bytes start media : List ℕ) (size : ℕ) 
 size_of_blob_head name digest bytes start media size close e s m =
     rw (s, m) (e ∙ blob_head_bytes name digest size close ∙ sym (append_assoc (status_line 200) (digest_field digest) _)
     ∙ ap (λ (t : List ℕ). (status_line 200 ++ digest_field digest) ++ t) (body_place 200 byte_media size close [] refl))
+
+-- ---- manifests
+
+pub for_manifest : (P : Reply → Type 0) → ((digest : List ℕ) (media : Media) (bytes : List ℕ) → P (replies.Manifest digest media bytes)) → (reply : Reply) → IsManifest reply → P reply
+for_manifest P f (replies.Manifest digest media bytes) h = f digest media bytes
+for_manifest P f reply h = absurd h
+
+pub for_manifest_head : (P : Reply → Type 0) → ((digest : List ℕ) (media : Media) (size : ℕ) → P (replies.ManifestHead digest media size)) → (reply : Reply) → IsManifestHead reply → P reply
+for_manifest_head P f (replies.ManifestHead digest media size) h = f digest media size
+for_manifest_head P f reply h = absurd h
+
+pub manifest_bytes : (name digest body : List ℕ) (media : Media) (close : Bool)
+    → spelled (parts_of name (replies.Manifest digest media body)) false close ≡ status_line 200 ++ (digest_field digest ++ (body_lines 200 (Some (media_text media)) (length body) close ++ body))
+unfolding spelled parts_of rest_of shown_body
+manifest_bytes name digest body media close = append_assoc (status_line 200) (digest_field digest) _
+
+pub manifest_head_bytes : (name digest : List ℕ) (media : Media) (size : ℕ) (close : Bool)
+    → spelled (parts_of name (replies.ManifestHead digest media size)) true close ≡ status_line 200 ++ (digest_field digest ++ (body_lines 200 (Some (media_text media)) size close ++ []))
+unfolding spelled parts_of rest_of shown_body
+manifest_head_bytes name digest media size close = append_assoc (status_line 200) (digest_field digest) _
+
+pub media_place : (start media rest : List ℕ)
+    → start ++ (type_field (Some media) ++ rest) ≡ (start ++ codes "Content-Type: ") ++ (media ++ (13 ∷ (10 ∷ rest)))
+unfolding type_field
+media_place start media rest = simp append_assoc
+
+-- what stands behind the start of a reply that names a digest, in the lines of its body
+pub behind_start : (bytes digest start media rest : List ℕ) (size : ℕ) (close : Bool)
+    → bytes ≡ status_line 200 ++ (digest_field digest ++ (body_lines 200 (Some media) size close ++ rest)) → start ≡ status_line 200 ++ digest_field digest
+    → bytes ≡ start ++ (body_lines 200 (Some media) size close ++ rest)
+behind_start bytes digest start media rest size close e s = rw s (e ∙ sym (append_assoc (status_line 200) (digest_field digest) _))
+
+pub size_behind_start : (bytes digest start media rest : List ℕ) (size : ℕ) (close : Bool)
+    → bytes ≡ status_line 200 ++ (digest_field digest ++ (body_lines 200 (Some media) size close ++ rest)) → start ≡ status_line 200 ++ digest_field digest
+    → bytes ≡ start ++ (type_field (Some media) ++ (size_field size ++ ((closing_field close ++ crlf) ++ rest)))
+size_behind_start bytes digest start media rest size close e s =
+    behind_start bytes digest start media rest size close e s ∙ ap (λ (t : List ℕ). start ++ t) (body_place 200 media size close rest refl)
+
+pub named_behind_start : (bytes digest start media text rest : List ℕ) (size : ℕ) (close : Bool)
+    → bytes ≡ status_line 200 ++ (digest_field digest ++ (body_lines 200 (Some media) size close ++ rest)) → start ≡ status_line 200 ++ digest_field digest → text ≡ media
+    → bytes ≡ start ++ (body_lines 200 (Some text) size close ++ rest)
+named_behind_start bytes digest start media text rest size close e s m = rw m (behind_start bytes digest start media rest size close e s)
+
+pub named_size_behind_start : (bytes digest start media text rest : List ℕ) (size : ℕ) (close : Bool)
+    → bytes ≡ status_line 200 ++ (digest_field digest ++ (body_lines 200 (Some media) size close ++ rest)) → start ≡ status_line 200 ++ digest_field digest → text ≡ media
+    → bytes ≡ start ++ (type_field (Some text) ++ (size_field size ++ ((closing_field close ++ crlf) ++ rest)))
+named_size_behind_start bytes digest start media text rest size close e s m = rw m (size_behind_start bytes digest start media rest size close e s)
 
 -- ---- what is confirmed is found
 
