@@ -1,5 +1,5 @@
 -- What the bytes of each kind of reply are, piece by piece.
-use Rattle.std.proofs.Common.{◌≡◌, ℕ, ◌+◌, ◌<◌, ◌≤◌, ◌^◌, ◌==◌, arith, Bool, true, false, List, [], ◌∷◌, ◌++◌, length, Option, Some, None, refl, sym, ap, subst, ◌∙◌}
+use Rattle.std.proofs.Common.{◌≡◌, ℕ, ◌+◌, ◌-◌, ◌<◌, ◌≤◌, ◌^◌, ◌==◌, arith, Bool, true, false, List, [], ◌∷◌, ◌++◌, length, Option, Some, None, refl, sym, ap, subst, ◌∙◌}
 use Rattle.std.specs.Prelude.{IfOk, Result, Ok, Err, codes}
 use Rattle.std.specs.Borrow.{Bor}
 use Rattle.std.specs.Fmt.{decimal}
@@ -10,8 +10,9 @@ use Rattle.zot_media.specs.declared.media.Media.{Media}
 use Rattle.zot_media.specs.Media.{media_text}
 use Rattle.zot_model.specs.declared.reply.Reply.{Reply}
 use Rattle.zot_model.specs.declared.reply.Reply.TheVariants as replies
-use Rattle.zot_spell.specs.Fields.{closing_field, crlf, digest_field, length_field, size_field, status_line, type_field}
-use Rattle.zot_spell.specs.Reading.{Confirms, Finds, IsBlob, IsBlobHead, IsManifest, IsManifestHead, IsReal}
+use Rattle.zot_names.specs.Upload.{upload_text}
+use Rattle.zot_spell.specs.Fields.{blob_place, closing_field, crlf, digest_field, length_field, location_field, range_field, range_text, size_field, status_line, type_field, upload_field, upload_fields, upload_place}
+use Rattle.zot_spell.specs.Reading.{Confirms, Finds, IsBlob, IsBlobHead, IsBlobMade, IsManifest, IsManifestHead, IsReal, IsSession}
 use Rattle.zot_spell.specs.Spelling.{body_lines, byte_media, parts_of, rest_of, shown_body, spelled}
 
 pub ap₃ : {A B C D : Type 0} (f : A → B → C → D) {a x : A} {b y : B} {c z : C} → a ≡ x → b ≡ y → c ≡ z → f a b c ≡ f x y z
@@ -51,9 +52,9 @@ pub body_place : (status : ℕ) (media : List ℕ) (size : ℕ) (close : Bool) (
 unfolding body_lines length_field
 body_place status media size close rest h = simp (h, append_assoc)
 
-pub blob_place : (name digest body bytes start media : List ℕ) (close : Bool) → bytes ≡ spelled (parts_of name (replies.Blob digest body)) false close
+pub blob_behind_start : (name digest body bytes start media : List ℕ) (close : Bool) → bytes ≡ spelled (parts_of name (replies.Blob digest body)) false close
     → start ≡ status_line 200 ++ digest_field digest → media ≡ byte_media → bytes ≡ start ++ (body_lines 200 (Some media) (length body) close ++ body)
-blob_place name digest body bytes start media close e s m = rw (s, m) (e ∙ blob_bytes name digest body close ∙ sym (append_assoc (status_line 200) (digest_field digest) _))
+blob_behind_start name digest body bytes start media close e s m = rw (s, m) (e ∙ blob_bytes name digest body close ∙ sym (append_assoc (status_line 200) (digest_field digest) _))
 
 pub none_copied : (found : Option (Bor (List ℕ))) (x : List ℕ) {P : Type 0} → option_copied found ≡ Some x → found ≡ None → P
 none_copied found x e h = let n : option_copied found ≡ None = ap option_copied h in cc
@@ -127,6 +128,40 @@ pub named_size_behind_start : (bytes digest start media text rest : List ℕ) (s
     → bytes ≡ status_line 200 ++ (digest_field digest ++ (body_lines 200 (Some media) size close ++ rest)) → start ≡ status_line 200 ++ digest_field digest → text ≡ media
     → bytes ≡ start ++ (type_field (Some text) ++ (size_field size ++ ((closing_field close ++ crlf) ++ rest)))
 named_size_behind_start bytes digest start media text rest size close e s m = rw m (size_behind_start bytes digest start media rest size close e s)
+
+-- ---- blobs that were stored, and uploads
+
+pub for_blob_made : (P : Reply → Type 0) → ((digest : List ℕ) → P (replies.BlobMade digest)) → (reply : Reply) → IsBlobMade reply → P reply
+for_blob_made P f (replies.BlobMade digest) h = f digest
+for_blob_made P f reply h = absurd h
+
+pub blob_made_bytes : (name digest : List ℕ) (close : Bool)
+    → spelled (parts_of name (replies.BlobMade digest)) false close
+    ≡ (status_line 201 ++ codes "Location: " ++ codes "/v2/" ++ name ++ codes "/blobs/") ++ (digest_text digest ++ (crlf ++ (digest_field digest ++ (body_lines 201 None 0 close ++ []))))
+unfolding spelled parts_of rest_of shown_body location_field blob_place
+blob_made_bytes name digest close = simp append_assoc
+
+pub for_session : (status : ℕ) (P : Reply → Type 0) → ((id size : ℕ) → P (replies.Session id size status)) → (reply : Reply) → IsSession status reply → P reply
+for_session status P f (replies.Session id size code) h = subst (λ (s : ℕ). P (replies.Session id size s)) (sym h) (f id size)
+for_session status P f reply h = absurd h
+
+pub session_bytes : (name : List ℕ) (id size status : ℕ) (close : Bool)
+    → spelled (parts_of name (replies.Session id size status)) false close
+    ≡ (status_line status ++ codes "Location: " ++ codes "/v2/" ++ name ++ codes "/blobs/uploads/") ++ (upload_text id ++ (crlf ++ (range_field size ++ (upload_field id ++ (body_lines status None 0 close ++ [])))))
+unfolding spelled parts_of rest_of shown_body upload_fields location_field upload_place
+session_bytes name id size status close = simp append_assoc
+
+pub range_bytes : (name : List ℕ) (id size status : ℕ) (close : Bool)
+    → spelled (parts_of name (replies.Session id size status)) false close
+    ≡ (status_line status ++ location_field (upload_place name id) ++ codes "Range: " ++ codes "0-") ++ (decimal (size - 1) ++ (13 ∷ (10 ∷ (upload_field id ++ (body_lines status None 0 close ++ [])))))
+unfolding spelled parts_of rest_of shown_body upload_fields range_field range_text
+range_bytes name id size status close = simp append_assoc
+
+-- an upload's size counts for its spelling only by the place of its last byte
+pub session_alike : (name : List ℕ) (id size other status : ℕ) (close : Bool) → size - 1 ≡ other - 1
+    → spelled (parts_of name (replies.Session id size status)) false close ≡ spelled (parts_of name (replies.Session id other status)) false close
+unfolding parts_of upload_fields range_field range_text
+session_alike name id size other status close h = rw h refl
 
 -- ---- what is confirmed is found
 

@@ -1,15 +1,17 @@
 //! Replies that bytes may be.
 ghost use Rattle.std.specs.Prelude.{◌≡◌, ◌<◌, ◌^◌, ◌++◌, ◌==◌, ℕ, List, length, Some, true, false, codes, IfOk};
 ghost use Rattle.std.specs.Option.{option_copied};
+ghost use Rattle.http.specs.StatusCode.{IsStatusCode};
 ghost use Rattle.zot_digest.specs.Digest.{IsDigest};
 ghost use Rattle.zot_media.specs.declared.media.Media.{Media};
 ghost use Rattle.zot_media.specs.Media.{media_text};
-ghost use Rattle.zot_spell.specs.Fields.{digest_field, size_field, status_line, type_field};
-ghost use Rattle.zot_spell.specs.Reading.{Confirms, Finds, IsBlob, IsBlobHead, IsManifest, IsManifestHead};
+ghost use Rattle.zot_spell.specs.Fields.{digest_field, location_field, size_field, status_line, type_field, upload_place};
+ghost use Rattle.zot_spell.specs.Reading.{Confirms, Finds, IsBlob, IsBlobHead, IsBlobMade, IsManifest, IsManifestHead, IsSession};
 ghost use Rattle.zot_spell.specs.Spelling.{HasStatus, body_lines};
 
-use crate::fields::{push_digest, push_type};
-use crate::reading::{behind, digest_behind, number_behind, size_of, text_behind};
+use crate::fields::{push_digest, push_location, push_type};
+use crate::places::upload_place;
+use crate::reading::{behind, digest_behind, id_behind, number_behind, size_of, text_behind};
 use crate::reply::{byte_media, push_lines, spell};
 use crate::status::push_status;
 use std::alloc::{AllocError, Global};
@@ -17,6 +19,7 @@ use std::str;
 use zot_digest::{Bytes, Digest};
 use zot_media::{Media, media_of};
 use zot_model::Reply;
+use zot_names::UploadId;
 
 // The reply, where the bytes are it.
 fn confirm(
@@ -258,4 +261,94 @@ pub fn read_manifest_head(
         size,
     };
     confirm(alloc, name, reply, true, close, bytes)
+}
+
+/// The reply of a blob that was stored, if bytes are one.
+pub fn read_blob_made(
+    alloc: Global,
+    name: &str,
+    bytes: &[u8],
+    close: bool,
+) -> Result<Option<Reply>, AllocError>
+    ensures { IfOk result (Finds IsBlobMade name.now false close bytes.now) }
+{
+    let front = blob_made_front(alloc, name)?;
+    let Some(digest) = digest_behind(bytes, front.as_slice()) else {
+        return Ok(None);
+    };
+    confirm(alloc, name, Reply::BlobMade { digest }, false, close, bytes)
+}
+
+// The reply of a blob that was stored, up to the digest in its place.
+fn blob_made_front(alloc: Global, name: &str) -> Result<Vec<u8>, AllocError>
+    ensures { IfOk result (λ front. front.items
+        ≡ status_line 201 ++ codes "Location: " ++ codes "/v2/" ++ name.now ++ codes "/blobs/") }
+{
+    let mut front = Vec::new(alloc);
+    push_status(&mut front, 201)?;
+    front.extend_from_slice(b"Location: ".as_slice())?;
+    front.extend_from_slice(b"/v2/".as_slice())?;
+    front.extend_from_slice(name.as_bytes())?;
+    front.extend_from_slice(b"/blobs/".as_slice())?;
+    Ok(front)
+}
+
+/// The upload that bytes are with this status, if they are one.
+pub fn read_session(
+    alloc: Global,
+    name: &str,
+    bytes: &[u8],
+    close: bool,
+    status: u16,
+) -> Result<Option<Reply>, AllocError>
+    requires { IsStatusCode status }
+    ensures { IfOk result (Finds (IsSession status) name.now false close bytes.now) }
+{
+    let front = id_front(alloc, name, status)?;
+    let Some(id) = id_behind(bytes, front.as_slice()) else {
+        return Ok(None);
+    };
+    let front = range_front(alloc, name, &id, status)?;
+    let Some(last) = number_behind(bytes, front.as_slice(), b'\r') else {
+        return Ok(None);
+    };
+    if last == u64::MAX {
+        return Ok(None);
+    }
+    let reply = Reply::Session {
+        id,
+        length: last + 1,
+        status,
+    };
+    confirm(alloc, name, reply, false, close, bytes)
+}
+
+// The lines of an upload up to its id.
+fn id_front(alloc: Global, name: &str, status: u16) -> Result<Vec<u8>, AllocError>
+    requires { IsStatusCode status }
+    ensures { IfOk result (λ front. front.items
+        ≡ status_line status ++ codes "Location: " ++ codes "/v2/" ++ name.now ++ codes "/blobs/uploads/") }
+{
+    let mut front = Vec::new(alloc);
+    push_status(&mut front, status)?;
+    front.extend_from_slice(b"Location: ".as_slice())?;
+    front.extend_from_slice(b"/v2/".as_slice())?;
+    front.extend_from_slice(name.as_bytes())?;
+    front.extend_from_slice(b"/blobs/uploads/".as_slice())?;
+    Ok(front)
+}
+
+// The lines of an upload up to the place of its last byte.
+fn range_front(alloc: Global, name: &str, id: &UploadId, status: u16) -> Result<Vec<u8>, AllocError>
+    requires { IsStatusCode status }
+    ensures { IfOk result (λ front. front.items
+        ≡ status_line status ++ location_field (upload_place name.now id.now) ++ codes "Range: " ++ codes "0-") }
+{
+    let place = upload_place(alloc, name, id)?;
+    let mut front = Vec::new(alloc);
+    push_status(&mut front, status)?;
+    push_location(&mut front, place.as_slice())?;
+    front.extend_from_slice(b"Range: ".as_slice())?;
+    front.extend_from_slice(b"0-".as_slice())?;
+    Ok(front)
 }

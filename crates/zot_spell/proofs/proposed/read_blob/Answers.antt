@@ -2,7 +2,7 @@ use Rattle.std.proofs.Common.{◌≡◌, ◌∙◌, ◌++◌, List, ℕ, Bool, f
 use Rattle.zot_digest.specs.Digest.{IsDigest}
 use Rattle.zot_model.specs.declared.reply.Reply.{Reply}
 use Rattle.zot_model.specs.declared.reply.Reply.TheVariants as replies
-use Rattle.zot_spell.proofs.FoundLemmas.{blob_bytes, blob_place, finds_ok, for_blob, none_copied, some_copied}
+use Rattle.zot_spell.proofs.FoundLemmas.{blob_bytes, blob_behind_start, finds_ok, for_blob, none_copied, some_copied}
 use Rattle.zot_spell.specs.Fields.{digest_field, status_line}
 use Rattle.zot_spell.specs.Reading.{Differs, IsBlob, IsReal}
 use Rattle.zot_spell.specs.Spelling.{body_lines, byte_media, parts_of, spelled}
@@ -30,7 +30,7 @@ returns-in_default-2 c = λ reply real kind.
     let d = same_digest name digest body c.args.bytes.now c.args.close c.in_ok-digest.field-0 c.in_ok-digest.ensures is e in
     let same : c.in-Some.digest ≡ digest = cc (d, c.in-Some.is) in
     let start = c.as_slice.ensures.value ∙ c.in_ok-start.ensures ∙ ap (λ (x : List ℕ). status_line 200 ++ digest_field x) same in
-    let place = blob_place name digest body c.args.bytes.now c.as_slice.result.now c.byte_media.result.now c.args.close e start c.byte_media.ensures in
+    let place = blob_behind_start name digest body c.args.bytes.now c.as_slice.result.now c.byte_media.result.now c.args.close e start c.byte_media.ensures in
     none_copied c.in_ok-body.field-0 body (c.in_ok-body.ensures body place) c.in_default-2.is)
     reply kind real
 
@@ -47,7 +47,7 @@ returns c =
     let d = same_digest name digest body c.args.bytes.now c.args.close c.in_ok-digest.field-0 c.in_ok-digest.ensures is e in
     let same : c.in-Some.digest ≡ digest = cc (d, c.in-Some.is) in
     let start = c.as_slice.ensures.value ∙ c.in_ok-start.ensures ∙ ap (λ (x : List ℕ). status_line 200 ++ digest_field x) same in
-    let place = blob_place name digest body c.args.bytes.now c.as_slice.result.now c.byte_media.result.now c.args.close e start c.byte_media.ensures in
+    let place = blob_behind_start name digest body c.args.bytes.now c.as_slice.result.now c.byte_media.result.now c.args.close e start c.byte_media.ensures in
     let found = some_copied c.in_ok-body.field-0 body c.in-Some-2.body (c.in_ok-body.ensures body place) c.in-Some-2.is in
     let bytes : c.new.result ≡ body = c.new.ensures ∙ c.in_ok-from_slice.ensures.items ∙ found in
     e ∙ ap₂ (λ (x y : List ℕ). spelled (parts_of name (replies.Blob x y)) false c.args.close) (sym same) (sym bytes))
