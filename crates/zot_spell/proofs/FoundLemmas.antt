@@ -7,12 +7,13 @@ use Rattle.std.specs.Option.{option_copied}
 use Rattle.std.proofs.lemmas.List.{append_assoc, length-append}
 use Rattle.zot_digest.specs.Digest.{IsDigest, digest_text}
 use Rattle.zot_media.specs.declared.media.Media.{Media}
+use Rattle.zot_media.specs.declared.media.Media.TheVariants.{Index}
 use Rattle.zot_media.specs.Media.{media_text}
 use Rattle.zot_model.specs.declared.reply.Reply.{Reply}
 use Rattle.zot_model.specs.declared.reply.Reply.TheVariants as replies
 use Rattle.zot_names.specs.Upload.{upload_text}
-use Rattle.zot_spell.specs.Fields.{blob_place, closing_field, crlf, digest_field, length_field, location_field, range_field, range_text, size_field, status_line, type_field, upload_field, upload_fields, upload_place}
-use Rattle.zot_spell.specs.Reading.{Confirms, Finds, IsBlob, IsBlobHead, IsBlobMade, IsManifest, IsManifestHead, IsReal, IsSession}
+use Rattle.zot_spell.specs.Fields.{blob_place, closing_field, crlf, digest_field, filter_field, length_field, location_field, range_field, range_text, size_field, status_line, type_field, upload_field, upload_fields, upload_place}
+use Rattle.zot_spell.specs.Reading.{Confirms, Differs, Finds, IsBlob, IsBlobHead, IsBlobMade, IsIndex, IsManifest, IsManifestHead, IsReal, IsReferrers, IsSession}
 use Rattle.zot_spell.specs.Spelling.{body_lines, byte_media, parts_of, rest_of, shown_body, spelled}
 
 pub ap₃ : {A B C D : Type 0} (f : A → B → C → D) {a x : A} {b y : B} {c z : C} → a ≡ x → b ≡ y → c ≡ z → f a b c ≡ f x y z
@@ -162,6 +163,28 @@ pub session_alike : (name : List ℕ) (id size other status : ℕ) (close : Bool
     → spelled (parts_of name (replies.Session id size status)) false close ≡ spelled (parts_of name (replies.Session id other status)) false close
 unfolding parts_of upload_fields range_field range_text
 session_alike name id size other status close h = rw h refl
+
+-- ---- referrers
+
+pub for_index : (filtered : Bool) (P : Reply → Type 0) → ((text : List ℕ) → P (replies.Referrers text filtered)) → (reply : Reply) → IsIndex filtered reply → P reply
+for_index filtered P f (replies.Referrers text other) h = subst (λ (b : Bool). P (replies.Referrers text b)) (sym h) (f text)
+for_index filtered P f reply h = absurd h
+
+pub index_bytes : (name text : List ℕ) (filtered close : Bool)
+    → spelled (parts_of name (replies.Referrers text filtered)) false close ≡ (status_line 200 ++ filter_field filtered) ++ (body_lines 200 (Some (media_text Index)) (length text) close ++ text)
+unfolding spelled parts_of rest_of shown_body
+index_bytes name text filtered close = refl
+
+pub index_behind_start : (name text bytes start media : List ℕ) (filtered close : Bool) → bytes ≡ spelled (parts_of name (replies.Referrers text filtered)) false close
+    → start ≡ status_line 200 ++ filter_field filtered → media ≡ media_text Index → bytes ≡ start ++ (body_lines 200 (Some media) (length text) close ++ text)
+index_behind_start name text bytes start media filtered close e s m = rw (s, m) (e ∙ index_bytes name text filtered close)
+
+-- an index is filtered or it isn't
+pub either_index : (name : List ℕ) (head close : Bool) (bytes : List ℕ) (reply : Reply) → IsReal reply → IsReferrers reply
+    → Finds (IsIndex true) name head close bytes None → Finds (IsIndex false) name head close bytes None → Differs name head close bytes reply
+either_index name head close bytes (replies.Referrers text true) real kind a b = a (replies.Referrers text true) real refl
+either_index name head close bytes (replies.Referrers text false) real kind a b = b (replies.Referrers text false) real refl
+either_index name head close bytes reply real kind a b = absurd kind
 
 -- ---- what is confirmed is found
 

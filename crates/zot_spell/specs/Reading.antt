@@ -101,6 +101,10 @@ abbrev pub IsReferrers : Reply → Type 0
 IsReferrers (replies.Referrers text filtered) = ⊤
 IsReferrers _ = ⊥
 
+abbrev pub IsIndex : Bool → Reply → Type 0
+IsIndex filtered (replies.Referrers text other) = other ≡ filtered
+IsIndex filtered _ = ⊥
+
 -- a refusal with this code, its status and its kind of detail
 abbrev pub IsRefusedAs : Code → Reply → Type 0
 IsRefusedAs code (replies.Refused status other detail) = (other ≡ code) × (status ≡ status_of code) × HasDetail code detail

@@ -5,11 +5,11 @@ ghost use Rattle.http.specs.StatusCode.{IsStatusCode};
 ghost use Rattle.zot_digest.specs.Digest.{IsDigest};
 ghost use Rattle.zot_media.specs.declared.media.Media.{Media};
 ghost use Rattle.zot_media.specs.Media.{media_text};
-ghost use Rattle.zot_spell.specs.Fields.{digest_field, location_field, size_field, status_line, type_field, upload_place};
-ghost use Rattle.zot_spell.specs.Reading.{Confirms, Finds, IsBlob, IsBlobHead, IsBlobMade, IsManifest, IsManifestHead, IsSession};
+ghost use Rattle.zot_spell.specs.Fields.{digest_field, filter_field, location_field, size_field, status_line, type_field, upload_place};
+ghost use Rattle.zot_spell.specs.Reading.{Confirms, Finds, IsBlob, IsBlobHead, IsBlobMade, IsIndex, IsManifest, IsManifestHead, IsReferrers, IsSession};
 ghost use Rattle.zot_spell.specs.Spelling.{HasStatus, body_lines};
 
-use crate::fields::{push_digest, push_location, push_type};
+use crate::fields::{push_digest, push_filter, push_location, push_type};
 use crate::places::upload_place;
 use crate::reading::{behind, digest_behind, id_behind, number_behind, size_of, text_behind};
 use crate::reply::{byte_media, push_lines, spell};
@@ -351,4 +351,51 @@ fn range_front(alloc: Global, name: &str, id: &UploadId, status: u16) -> Result<
     front.extend_from_slice(b"Range: ".as_slice())?;
     front.extend_from_slice(b"0-".as_slice())?;
     Ok(front)
+}
+
+/// The index of referrers that bytes are, if they are one.
+pub fn read_referrers(
+    alloc: Global,
+    name: &str,
+    bytes: &[u8],
+    close: bool,
+) -> Result<Option<Reply>, AllocError>
+    ensures { IfOk result (Finds IsReferrers name.now false close bytes.now) }
+{
+    match read_index(alloc, name, bytes, close, true)? {
+        Some(reply) => Ok(Some(reply)),
+        None => read_index(alloc, name, bytes, close, false),
+    }
+}
+
+// The index of referrers that bytes are, filtered or not, if they are one.
+fn read_index(
+    alloc: Global,
+    name: &str,
+    bytes: &[u8],
+    close: bool,
+    filtered: bool,
+) -> Result<Option<Reply>, AllocError>
+    ensures { IfOk result (Finds (IsIndex filtered) name.now false close bytes.now) }
+{
+    let start = index_start(alloc, filtered)?;
+    let media = Media::Index;
+    let Some(body) = find_body(alloc, bytes, start.as_slice(), 200, media.text(), close)? else {
+        return Ok(None);
+    };
+    let reply = Reply::Referrers {
+        text: Bytes::new(Vec::from_slice(alloc, body)?),
+        filtered,
+    };
+    confirm(alloc, name, reply, false, close, bytes)
+}
+
+// The lines of an index of referrers through its own field.
+fn index_start(alloc: Global, filtered: bool) -> Result<Vec<u8>, AllocError>
+    ensures { IfOk result (λ start. start.items ≡ status_line 200 ++ filter_field filtered) }
+{
+    let mut start = Vec::new(alloc);
+    push_status(&mut start, 200)?;
+    push_filter(&mut start, filtered)?;
+    Ok(start)
 }
