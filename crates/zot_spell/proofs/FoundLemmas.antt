@@ -12,8 +12,8 @@ use Rattle.zot_media.specs.Media.{media_text}
 use Rattle.zot_model.specs.declared.reply.Reply.{Reply}
 use Rattle.zot_model.specs.declared.reply.Reply.TheVariants as replies
 use Rattle.zot_names.specs.Upload.{upload_text}
-use Rattle.zot_spell.specs.Fields.{blob_place, closing_field, crlf, digest_field, filter_field, length_field, location_field, range_field, range_text, size_field, status_line, type_field, upload_field, upload_fields, upload_place}
-use Rattle.zot_spell.specs.Reading.{Confirms, Differs, Finds, IsBlob, IsBlobHead, IsBlobMade, IsIndex, IsManifest, IsManifestHead, IsReal, IsReferrers, IsSession}
+use Rattle.zot_spell.specs.Fields.{blob_place, closing_field, crlf, digest_field, filter_field, length_field, location_field, manifest_place, range_field, range_text, size_field, status_line, subject_field, type_field, upload_field, upload_fields, upload_place}
+use Rattle.zot_spell.specs.Reading.{Confirms, Differs, Finds, IsBlob, IsBlobHead, IsBlobMade, IsIndex, IsManifest, IsManifestHead, IsReal, IsReferrers, IsSession, IsWithSubject, IsWithoutSubject}
 use Rattle.zot_spell.specs.Spelling.{body_lines, byte_media, parts_of, rest_of, shown_body, spelled}
 
 pub ap₃ : {A B C D : Type 0} (f : A → B → C → D) {a x : A} {b y : B} {c z : C} → a ≡ x → b ≡ y → c ≡ z → f a b c ≡ f x y z
@@ -185,6 +185,34 @@ pub either_index : (name : List ℕ) (head close : Bool) (bytes : List ℕ) (rep
 either_index name head close bytes (replies.Referrers text true) real kind a b = a (replies.Referrers text true) real refl
 either_index name head close bytes (replies.Referrers text false) real kind a b = b (replies.Referrers text false) real refl
 either_index name head close bytes reply real kind a b = absurd kind
+
+-- ---- manifests that were stored
+
+pub for_without : (P : Reply → Type 0) → ((digest : List ℕ) → P (replies.ManifestMade digest None)) → (reply : Reply) → IsWithoutSubject reply → P reply
+for_without P f (replies.ManifestMade digest None) h = f digest
+for_without P f (replies.ManifestMade digest (Some subject)) h = absurd h
+for_without P f reply h = absurd h
+
+pub for_with : (P : Reply → Type 0) → ((digest subject : List ℕ) → P (replies.ManifestMade digest (Some subject))) → (reply : Reply) → IsWithSubject reply → P reply
+for_with P f (replies.ManifestMade digest (Some subject)) h = f digest subject
+for_with P f (replies.ManifestMade digest None) h = absurd h
+for_with P f reply h = absurd h
+
+-- what stands behind the digest in the place of a manifest that was stored
+abbrev pub behind_manifest : List ℕ → Option (List ℕ) → Bool → List ℕ
+behind_manifest digest subject close = crlf ++ (digest_field digest ++ (subject_field subject ++ (body_lines 201 None 0 close ++ [])))
+
+pub manifest_made_bytes : (name digest : List ℕ) (subject : Option (List ℕ)) (close : Bool)
+    → spelled (parts_of name (replies.ManifestMade digest subject)) false close
+    ≡ (status_line 201 ++ codes "Location: " ++ codes "/v2/" ++ name ++ codes "/manifests/") ++ (digest_text digest ++ behind_manifest digest subject close)
+unfolding spelled parts_of rest_of shown_body location_field manifest_place
+manifest_made_bytes name digest subject close = simp append_assoc
+
+pub subject_bytes : (name digest subject : List ℕ) (close : Bool)
+    → spelled (parts_of name (replies.ManifestMade digest (Some subject))) false close
+    ≡ (status_line 201 ++ location_field (manifest_place name digest) ++ digest_field digest ++ codes "OCI-Subject: ") ++ (digest_text subject ++ (crlf ++ (body_lines 201 None 0 close ++ [])))
+unfolding spelled parts_of rest_of shown_body subject_field
+subject_bytes name digest subject close = simp append_assoc
 
 -- ---- what is confirmed is found
 

@@ -105,6 +105,14 @@ abbrev pub IsIndex : Bool → Reply → Type 0
 IsIndex filtered (replies.Referrers text other) = other ≡ filtered
 IsIndex filtered _ = ⊥
 
+abbrev pub IsWithSubject : Reply → Type 0
+IsWithSubject (replies.ManifestMade digest (Some subject)) = ⊤
+IsWithSubject _ = ⊥
+
+abbrev pub IsWithoutSubject : Reply → Type 0
+IsWithoutSubject (replies.ManifestMade digest None) = ⊤
+IsWithoutSubject _ = ⊥
+
 -- a refusal with this code, its status and its kind of detail
 abbrev pub IsRefusedAs : Code → Reply → Type 0
 IsRefusedAs code (replies.Refused status other detail) = (other ≡ code) × (status ≡ status_of code) × HasDetail code detail

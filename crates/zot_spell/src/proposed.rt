@@ -5,12 +5,12 @@ ghost use Rattle.http.specs.StatusCode.{IsStatusCode};
 ghost use Rattle.zot_digest.specs.Digest.{IsDigest};
 ghost use Rattle.zot_media.specs.declared.media.Media.{Media};
 ghost use Rattle.zot_media.specs.Media.{media_text};
-ghost use Rattle.zot_spell.specs.Fields.{digest_field, filter_field, location_field, size_field, status_line, type_field, upload_place};
-ghost use Rattle.zot_spell.specs.Reading.{Confirms, Finds, IsBlob, IsBlobHead, IsBlobMade, IsIndex, IsManifest, IsManifestHead, IsReferrers, IsSession};
+ghost use Rattle.zot_spell.specs.Fields.{digest_field, filter_field, location_field, manifest_place, size_field, status_line, type_field, upload_place};
+ghost use Rattle.zot_spell.specs.Reading.{Confirms, Finds, IsBlob, IsBlobHead, IsBlobMade, IsIndex, IsManifest, IsManifestHead, IsManifestMade, IsReferrers, IsSession, IsWithSubject, IsWithoutSubject};
 ghost use Rattle.zot_spell.specs.Spelling.{HasStatus, body_lines};
 
 use crate::fields::{push_digest, push_filter, push_location, push_type};
-use crate::places::upload_place;
+use crate::places::{manifest_place, upload_place};
 use crate::reading::{behind, digest_behind, id_behind, number_behind, size_of, text_behind};
 use crate::reply::{byte_media, push_lines, spell};
 use crate::status::push_status;
@@ -398,4 +398,91 @@ fn index_start(alloc: Global, filtered: bool) -> Result<Vec<u8>, AllocError>
     push_status(&mut start, 200)?;
     push_filter(&mut start, filtered)?;
     Ok(start)
+}
+
+/// The reply of a manifest that was stored, if bytes are one.
+pub fn read_manifest_made(
+    alloc: Global,
+    name: &str,
+    bytes: &[u8],
+    close: bool,
+) -> Result<Option<Reply>, AllocError>
+    ensures { IfOk result (Finds IsManifestMade name.now false close bytes.now) }
+{
+    match read_with_subject(alloc, name, bytes, close)? {
+        Some(reply) => Ok(Some(reply)),
+        None => read_without_subject(alloc, name, bytes, close),
+    }
+}
+
+// The same of a manifest without a subject.
+fn read_without_subject(
+    alloc: Global,
+    name: &str,
+    bytes: &[u8],
+    close: bool,
+) -> Result<Option<Reply>, AllocError>
+    ensures { IfOk result (Finds IsWithoutSubject name.now false close bytes.now) }
+{
+    let front = manifest_made_front(alloc, name)?;
+    let Some(digest) = digest_behind(bytes, front.as_slice()) else {
+        return Ok(None);
+    };
+    let reply = Reply::ManifestMade {
+        digest,
+        subject: None,
+    };
+    confirm(alloc, name, reply, false, close, bytes)
+}
+
+// The same of a manifest with a subject.
+fn read_with_subject(
+    alloc: Global,
+    name: &str,
+    bytes: &[u8],
+    close: bool,
+) -> Result<Option<Reply>, AllocError>
+    ensures { IfOk result (Finds IsWithSubject name.now false close bytes.now) }
+{
+    let front = manifest_made_front(alloc, name)?;
+    let Some(digest) = digest_behind(bytes, front.as_slice()) else {
+        return Ok(None);
+    };
+    let front = subject_front(alloc, name, &digest)?;
+    let Some(subject) = digest_behind(bytes, front.as_slice()) else {
+        return Ok(None);
+    };
+    let reply = Reply::ManifestMade {
+        digest,
+        subject: Some(subject),
+    };
+    confirm(alloc, name, reply, false, close, bytes)
+}
+
+// The reply of a manifest that was stored, up to the digest in its place.
+fn manifest_made_front(alloc: Global, name: &str) -> Result<Vec<u8>, AllocError>
+    ensures { IfOk result (λ front. front.items
+        ≡ status_line 201 ++ codes "Location: " ++ codes "/v2/" ++ name.now ++ codes "/manifests/") }
+{
+    let mut front = Vec::new(alloc);
+    push_status(&mut front, 201)?;
+    front.extend_from_slice(b"Location: ".as_slice())?;
+    front.extend_from_slice(b"/v2/".as_slice())?;
+    front.extend_from_slice(name.as_bytes())?;
+    front.extend_from_slice(b"/manifests/".as_slice())?;
+    Ok(front)
+}
+
+// The same up to its subject.
+fn subject_front(alloc: Global, name: &str, digest: &Digest) -> Result<Vec<u8>, AllocError>
+    ensures { IfOk result (λ front. front.items
+        ≡ status_line 201 ++ location_field (manifest_place name.now digest.now) ++ digest_field digest.now ++ codes "OCI-Subject: ") }
+{
+    let place = manifest_place(alloc, name, digest)?;
+    let mut front = Vec::new(alloc);
+    push_status(&mut front, 201)?;
+    push_location(&mut front, place.as_slice())?;
+    push_digest(alloc, &mut front, digest)?;
+    front.extend_from_slice(b"OCI-Subject: ".as_slice())?;
+    Ok(front)
 }
