@@ -1,5 +1,5 @@
 -- What the bytes of each kind of reply are, piece by piece.
-use Rattle.std.proofs.Common.{◌≡◌, ℕ, ◌+◌, ◌-◌, ◌<◌, ◌≤◌, ◌^◌, ◌==◌, arith, Bool, true, false, List, [], ◌∷◌, ◌++◌, length, Option, Some, None, refl, sym, ap, subst, ◌∙◌}
+use Rattle.std.proofs.Common.{◌≡◌, ℕ, ◌+◌, ◌-◌, ◌<◌, ◌≤◌, ◌^◌, ◌==◌, arith, Bool, true, false, List, [], ◌∷◌, ◌++◌, length, Option, Some, None, refl, sym, ap, ap₂, subst, ◌∙◌}
 use Rattle.std.specs.Prelude.{IfOk, Result, Ok, Err, codes}
 use Rattle.std.specs.Borrow.{Bor}
 use Rattle.std.specs.Fmt.{decimal}
@@ -9,11 +9,14 @@ use Rattle.zot_digest.specs.Digest.{IsDigest, digest_text}
 use Rattle.zot_media.specs.declared.media.Media.{Media}
 use Rattle.zot_media.specs.declared.media.Media.TheVariants.{Index}
 use Rattle.zot_media.specs.Media.{media_text}
+use Rattle.zot_model.specs.declared.code.Code.{Code}
+use Rattle.zot_model.specs.declared.detail.Detail.TheVariants as details
+use Rattle.zot_model.specs.Fits.{status_of}
 use Rattle.zot_model.specs.declared.reply.Reply.{Reply}
 use Rattle.zot_model.specs.declared.reply.Reply.TheVariants as replies
 use Rattle.zot_names.specs.Upload.{upload_text}
 use Rattle.zot_spell.specs.Fields.{blob_place, closing_field, crlf, digest_field, filter_field, length_field, location_field, manifest_place, range_field, range_text, size_field, status_line, subject_field, type_field, upload_field, upload_fields, upload_place}
-use Rattle.zot_spell.specs.Reading.{Confirms, Differs, Finds, IsBlob, IsBlobHead, IsBlobMade, IsIndex, IsManifest, IsManifestHead, IsReal, IsReferrers, IsSession, IsWithSubject, IsWithoutSubject}
+use Rattle.zot_spell.specs.Reading.{Confirms, Differs, Finds, IsBlob, IsBlobHead, IsBlobMade, IsIndex, IsManifest, IsManifestHead, IsPlainRefusal, IsReal, IsReferrers, IsSession, IsWithSubject, IsWithoutSubject}
 use Rattle.zot_spell.specs.Spelling.{body_lines, byte_media, parts_of, rest_of, shown_body, spelled}
 
 pub ap₃ : {A B C D : Type 0} (f : A → B → C → D) {a x : A} {b y : B} {c z : C} → a ≡ x → b ≡ y → c ≡ z → f a b c ≡ f x y z
@@ -213,6 +216,14 @@ pub subject_bytes : (name digest subject : List ℕ) (close : Bool)
     ≡ (status_line 201 ++ location_field (manifest_place name digest) ++ digest_field digest ++ codes "OCI-Subject: ") ++ (digest_text subject ++ (crlf ++ (body_lines 201 None 0 close ++ [])))
 unfolding spelled parts_of rest_of shown_body subject_field
 subject_bytes name digest subject close = simp append_assoc
+
+-- ---- refusals
+
+pub plain_refusal : (name : List ℕ) (head close : Bool) (bytes : List ℕ) (code : Code) (status : ℕ) → status ≡ status_of code → (reply : Reply) → IsPlainRefusal code reply
+    → bytes ≡ spelled (parts_of name reply) head close → bytes ≡ spelled (parts_of name (replies.Refused status code details.None)) head close
+plain_refusal name head close bytes code status s (replies.Refused other reason details.None) kind e =
+    e ∙ ap₂ (λ (n : ℕ) (c : Code). spelled (parts_of name (replies.Refused n c details.None)) head close) (kind.1 ∙ sym s) kind.0
+plain_refusal name head close bytes code status s reply kind e = absurd kind
 
 -- ---- what is confirmed is found
 

@@ -113,6 +113,10 @@ abbrev pub IsWithoutSubject : Reply → Type 0
 IsWithoutSubject (replies.ManifestMade digest None) = ⊤
 IsWithoutSubject _ = ⊥
 
+abbrev pub IsPlainRefusal : Code → Reply → Type 0
+IsPlainRefusal code (replies.Refused status other details.None) = (other ≡ code) × (status ≡ status_of code)
+IsPlainRefusal code _ = ⊥
+
 -- a refusal with this code, its status and its kind of detail
 abbrev pub IsRefusedAs : Code → Reply → Type 0
 IsRefusedAs code (replies.Refused status other detail) = (other ≡ code) × (status ≡ status_of code) × HasDetail code detail

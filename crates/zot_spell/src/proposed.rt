@@ -5,8 +5,9 @@ ghost use Rattle.http.specs.StatusCode.{IsStatusCode};
 ghost use Rattle.zot_digest.specs.Digest.{IsDigest};
 ghost use Rattle.zot_media.specs.declared.media.Media.{Media};
 ghost use Rattle.zot_media.specs.Media.{media_text};
+ghost use Rattle.zot_model.specs.Fits.{status_of};
 ghost use Rattle.zot_spell.specs.Fields.{digest_field, filter_field, location_field, manifest_place, size_field, status_line, type_field, upload_place};
-ghost use Rattle.zot_spell.specs.Reading.{Confirms, Finds, IsBlob, IsBlobHead, IsBlobMade, IsIndex, IsManifest, IsManifestHead, IsManifestMade, IsReferrers, IsSession, IsWithSubject, IsWithoutSubject};
+ghost use Rattle.zot_spell.specs.Reading.{Confirms, Finds, IsBlob, IsBlobHead, IsBlobMade, IsIndex, IsManifest, IsManifestHead, IsManifestMade, IsPlainRefusal, IsReferrers, IsSession, IsWithSubject, IsWithoutSubject};
 ghost use Rattle.zot_spell.specs.Spelling.{HasStatus, body_lines};
 
 use crate::fields::{push_digest, push_filter, push_location, push_type};
@@ -18,7 +19,7 @@ use std::alloc::{AllocError, Global};
 use std::str;
 use zot_digest::{Bytes, Digest};
 use zot_media::{Media, media_of};
-use zot_model::Reply;
+use zot_model::{Code, Detail, Reply};
 use zot_names::UploadId;
 
 // The reply, where the bytes are it.
@@ -485,4 +486,54 @@ fn subject_front(alloc: Global, name: &str, digest: &Digest) -> Result<Vec<u8>, 
     push_digest(alloc, &mut front, digest)?;
     front.extend_from_slice(b"OCI-Subject: ".as_slice())?;
     Ok(front)
+}
+
+/// The refusal with a code that says nothing beside it, if bytes are it.
+pub fn read_plain_refusal(
+    alloc: Global,
+    name: &str,
+    bytes: &[u8],
+    head: bool,
+    close: bool,
+    code: Code,
+) -> Result<Option<Reply>, AllocError>
+    ensures { IfOk result (Finds (IsPlainRefusal code) name.now head close bytes.now) }
+{
+    let reply = Reply::Refused {
+        status: status_of_code(code),
+        code,
+        detail: Detail::None,
+    };
+    confirm(alloc, name, reply, head, close, bytes)
+}
+
+// The status of a refused request.
+fn status_of_code(code: Code) -> u16
+    ensures value { result ≡ status_of code }
+    ensures three { IsStatusCode result }
+{
+    match code {
+        Code::DigestInvalid
+        | Code::HeadInvalid
+        | Code::ManifestBlobUnknown
+        | Code::ManifestInvalid
+        | Code::NameInvalid => 400,
+        Code::BlobUnknown | Code::BlobUploadUnknown | Code::ManifestUnknown | Code::NameUnknown =>
+            404,
+        Code::Unsupported => 405,
+        Code::SizeInvalid => 413,
+        Code::BlobUploadInvalid => 416,
+        Code::TooManyRequests => 429,
+        Code::HeadTooLong => 431,
+        Code::StorageFault => 500,
+        Code::NotBuilt => 501,
+        Code::PeerFault
+        | Code::UpstreamFault
+        | Code::UpstreamIncomplete
+        | Code::UpstreamInvalid
+        | Code::UpstreamMismatch
+        | Code::UpstreamTooLarge => 502,
+        Code::NoMemory => 503,
+        Code::HopRefused => 508,
+    }
 }
