@@ -10,6 +10,7 @@ use Rattle.zot_model.specs.declared.reply.Reply.{Reply}
 use Rattle.zot_model.specs.declared.reply.Reply.TheVariants as replies
 use Rattle.zot_model.specs.declared.request.Request.{Request}
 use Rattle.zot_model.specs.declared.code.Code.{Code}
+use Rattle.zot_model.specs.declared.code.Code.TheVariants.{BlobUploadInvalid}
 use Rattle.zot_model.specs.Fits.{Fits, HasDetail, status_of}
 use Rattle.zot_names.specs.Tag.{IsTag}
 use Rattle.zot_spell.specs.Spelling.{parts_of, reply_bytes, spelled}
@@ -116,6 +117,10 @@ IsWithoutSubject _ = ⊥
 abbrev pub IsPlainRefusal : Code → Reply → Type 0
 IsPlainRefusal code (replies.Refused status other details.None) = (other ≡ code) × (status ≡ status_of code)
 IsPlainRefusal code _ = ⊥
+
+abbrev pub IsRangeRefusal : Reply → Type 0
+IsRangeRefusal (replies.Refused status code (details.Session id size)) = (status ≡ 416) × (code ≡ BlobUploadInvalid)
+IsRangeRefusal _ = ⊥
 
 -- a refusal with this code, its status and its kind of detail
 abbrev pub IsRefusedAs : Code → Reply → Type 0

@@ -7,7 +7,7 @@ ghost use Rattle.zot_media.specs.declared.media.Media.{Media};
 ghost use Rattle.zot_media.specs.Media.{media_text};
 ghost use Rattle.zot_model.specs.Fits.{status_of};
 ghost use Rattle.zot_spell.specs.Fields.{digest_field, filter_field, location_field, manifest_place, size_field, status_line, type_field, upload_place};
-ghost use Rattle.zot_spell.specs.Reading.{Confirms, Finds, IsBlob, IsBlobHead, IsBlobMade, IsIndex, IsManifest, IsManifestHead, IsManifestMade, IsPlainRefusal, IsReferrers, IsSession, IsWithSubject, IsWithoutSubject};
+ghost use Rattle.zot_spell.specs.Reading.{Confirms, Finds, IsBlob, IsBlobHead, IsBlobMade, IsIndex, IsManifest, IsManifestHead, IsManifestMade, IsPlainRefusal, IsRangeRefusal, IsReferrers, IsSession, IsWithSubject, IsWithoutSubject};
 ghost use Rattle.zot_spell.specs.Spelling.{HasStatus, body_lines};
 
 use crate::fields::{push_digest, push_filter, push_location, push_type};
@@ -536,4 +536,32 @@ fn status_of_code(code: Code) -> u16
         Code::NoMemory => 503,
         Code::HopRefused => 508,
     }
+}
+
+/// The refusal of an upload whose range doesn't go on where it ends, if bytes are it.
+pub fn read_range_refusal(
+    alloc: Global,
+    name: &str,
+    bytes: &[u8],
+    close: bool,
+) -> Result<Option<Reply>, AllocError>
+    ensures { IfOk result (Finds IsRangeRefusal name.now false close bytes.now) }
+{
+    let front = id_front(alloc, name, 416)?;
+    let Some(id) = id_behind(bytes, front.as_slice()) else {
+        return Ok(None);
+    };
+    let front = range_front(alloc, name, &id, 416)?;
+    let Some(last) = number_behind(bytes, front.as_slice(), b'\r') else {
+        return Ok(None);
+    };
+    if last == u64::MAX {
+        return Ok(None);
+    }
+    let reply = Reply::Refused {
+        status: 416,
+        code: Code::BlobUploadInvalid,
+        detail: Detail::Session(id, last + 1),
+    };
+    confirm(alloc, name, reply, false, close, bytes)
 }
