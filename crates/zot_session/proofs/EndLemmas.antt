@@ -5,13 +5,13 @@ use Rattle.std.proofs.lemmas.Bool.{le-leb, leb-true}
 use Rattle.std.proofs.lemmas.List.{append-nil, length-append, take_all}
 use Rattle.std.proofs.Math.Seq.{take-append-add}
 use Rattle.zot_model.specs.declared.reply.Reply.{Reply}
+use Rattle.zot_outside.specs.Streams.{IsOver, Takes}
 use Rattle.zot_session.specs.declared.end.End.{End}
 use Rattle.zot_session.specs.declared.end.End.TheVariants as ends
 use Rattle.zot_session.specs.declared.front.Front.TheVariants.{Closing, Partial}
 use Rattle.zot_session.specs.declared.front.Message.{Message}
 use Rattle.zot_session.specs.Ends.{EndsAs, HasFailed, end_by}
 use Rattle.zot_session.specs.Front.{Messages, front_of}
-use Rattle.zot_session.specs.Outside.{IsOver, Takes}
 use Rattle.zot_session.specs.Session.{Exchange, Served, is_blank, message_of}
 use Rattle.zot_session.specs.Spelling.{status_in}
 use Rattle.zot_session.specs.Waiting.{budget}

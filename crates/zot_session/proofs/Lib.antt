@@ -1,8 +1,6 @@
-mod FakeLemmas
 mod HeadLemmas
 pub mod FrontLemmas
 mod InboxLemmas
-pub mod OutsideLemmas
 mod TurnLemmas
 pub mod SessionLemmas
 pub mod EndLemmas

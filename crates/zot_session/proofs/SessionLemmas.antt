@@ -3,17 +3,17 @@ use Rattle.std.proofs.Common.{◌≡◌, ℕ, ◌+◌, ◌-◌, ◌*◌, ◌<◌
 use Rattle.std.proofs.lemmas.List.{append_assoc, append-nil, length-append, length-drop}
 use Rattle.zot_model.specs.declared.reply.Reply.{Reply}
 use Rattle.zot_model.specs.declared.request.Request.{Request}
+use Rattle.zot_outside.specs.Streams.{Appends, Takes}
 use Rattle.zot_session.specs.declared.end.End.{End}
 use Rattle.zot_session.specs.declared.end.End.TheVariants as ends
 use Rattle.zot_session.specs.declared.front.Front.TheVariants.{Closing, Partial}
 use Rattle.zot_session.specs.Front.{Messages, front_of}
-use Rattle.zot_session.specs.Outside.{Appends, Takes}
 use Rattle.zot_session.specs.Session.{Conducts, Ending, Exchange, Served, answered, closing, declined, exchange, message_of, output, spelled}
 use Rattle.zot_session.specs.Spelling.{spelling}
 use Rattle.zot_session.specs.Turn.{AnswersFront, GoesOn, RefusalEnds, ReplyEnds, Stops, TakeEnds, early, piece, refusing, reply, replying, taking}
 use Rattle.zot_session.specs.Waiting.{TakesPiece, Waiting, budget}
 use Rattle.zot_session.proofs.FrontLemmas.{Messages-more, Messages-push, front_of_size}
-use Rattle.zot_session.proofs.OutsideLemmas.{Appends-append, Appends-nil, Takes-append, Takes-nil}
+use Rattle.zot_outside.proofs.StreamLemmas.{Appends-append, Appends-nil, Takes-append, Takes-nil}
 
 -- a session so far: what was taken is the exchanges' messages and what waits, and all their replies were written
 pub record SoFar {A : Type 0} (answers : A → Request → Reply → A → Type 0) (old now : A) (left_before left_now held_before held_now : Option (List ℕ)) (waits : Waiting) : Type 0 where

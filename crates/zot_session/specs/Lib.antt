@@ -1,8 +1,6 @@
 pub mod Ends
-pub mod Fakes
 pub mod Front
 pub mod Head
-pub mod Outside
 pub mod Seen
 pub mod Sending
 pub mod Session

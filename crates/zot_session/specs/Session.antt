@@ -2,13 +2,13 @@
 use Rattle.std.specs.Prelude.{◌≡◌, ℕ, ◌<◌, ◌≤◌, ◌==◌, ◌&&◌, Bool, true, false, not, if◌then◌else◌, List, [], ◌∷◌, ◌++◌, length, map, Option, unwrap_or, ◌⊎◌}
 use Rattle.zot_model.specs.declared.reply.Reply.{Reply}
 use Rattle.zot_model.specs.declared.request.Request.{Request}
+use Rattle.zot_outside.specs.Streams.{Appends, IsOver, Takes}
 use Rattle.zot_session.specs.declared.end.End.{End}
 use Rattle.zot_session.specs.declared.end.End.TheVariants as ends
 use Rattle.zot_session.specs.declared.front.Front.TheVariants.{Closing, Partial}
 use Rattle.zot_session.specs.declared.front.Message.{Message}
 use Rattle.zot_session.specs.declared.front.Message.TheVariants.{Asks, Refuses}
 use Rattle.zot_session.specs.Front.{Messages, front_of}
-use Rattle.zot_session.specs.Outside.{Appends, IsOver, Takes}
 use Rattle.zot_session.specs.Spelling.{spelling, status_in}
 use Rattle.zot_session.specs.Waiting.{budget}
 

@@ -2,6 +2,8 @@
 use Rattle.std.specs.Prelude.{◌≡◌, ℕ, ◌<◌, true, false, List, [], ◌∷◌, length, drop, Option, Some}
 use Rattle.zot_model.specs.declared.reply.Reply.{Reply}
 use Rattle.zot_model.specs.declared.request.Request.{Request}
+use Rattle.zot_outside.specs.Faults.{Rose}
+use Rattle.zot_outside.specs.Streams.{Appends, IsOver, Takes}
 use Rattle.zot_session.specs.declared.end.End.{End}
 use Rattle.zot_session.specs.declared.end.End.TheVariants as ends
 use Rattle.zot_session.specs.declared.front.Front.TheVariants.{Closing, Partial, Whole}
@@ -9,7 +11,6 @@ use Rattle.zot_session.specs.declared.front.Message.{Message}
 use Rattle.zot_session.specs.declared.front.Message.TheVariants.{Asks, Refuses}
 use Rattle.zot_session.specs.declared.sending.Sent.{Sent}
 use Rattle.zot_session.specs.Front.{IsAsked, front_of}
-use Rattle.zot_session.specs.Outside.{Appends, IsOver, Rose, Takes}
 use Rattle.zot_session.specs.Sending.{Sends}
 use Rattle.zot_session.specs.Session.{Conducts, Exchange, WritesPart, is_blank, message_of, spelled}
 use Rattle.zot_session.specs.Spelling.{HasStatus, spelling, status_in}

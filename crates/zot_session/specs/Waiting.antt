@@ -1,8 +1,9 @@
 -- The bytes of a connection that were taken and belong to no message yet.
 use Rattle.std.specs.Prelude.{◌≡◌, ℕ, ◌+◌, ◌<◌, ◌≤◌, List, [], ◌++◌, length, Option}
+use Rattle.zot_outside.specs.Faults.{Rose}
+use Rattle.zot_outside.specs.Streams.{IsOver, Takes}
 use Rattle.zot_session.specs.declared.inbox.Filled.{Filled}
 use Rattle.zot_session.specs.declared.inbox.Filled.TheVariants.{Fault, NoMemory, Over, Piece}
-use Rattle.zot_session.specs.Outside.{IsOver, Rose, Takes}
 
 -- the bytes that wait, and how many bytes were taken in all
 pub record Waiting : Type 0 where

@@ -1,12 +1,12 @@
 //! The bytes that were taken from a source and belong to no message yet.
 ghost use Rattle.std.specs.Prelude.{◌≡◌, ◌≤◌, ◌↔◌, ◌+◌, ◌<◌, IfOk, IsTrue, OnErr, length, drop, [], ◌++◌, vec_len, vec_capacity};
+ghost use Rattle.zot_outside.specs.Faults.{HasCause};
+ghost use Rattle.zot_outside.specs.Streams.{Reads, Takes};
 ghost use Rattle.zot_session.specs.Waiting.{FillFaults, Fills, budget};
-ghost use Rattle.zot_session.specs.Outside.{HasCause, Reads, Takes};
 
-use crate::failed::Failed;
-use crate::source::Source;
 use std::alloc::{AllocError, Global};
 use std::marker::Model;
+use zot_outside::{Failed, Source};
 
 /// How many bytes a connection may bring.
 pub const BUDGET: u64 = 1_099_511_627_776;

@@ -1,15 +1,15 @@
 //! Replies written to a sink.
 ghost use Rattle.std.specs.Prelude.{◌≡◌, OnOk, OnErr};
-ghost use Rattle.zot_session.specs.Outside.{Appends, HasCause};
+ghost use Rattle.zot_outside.specs.Faults.{HasCause};
+ghost use Rattle.zot_outside.specs.Streams.{Appends};
 ghost use Rattle.zot_session.specs.Sending.{SendFaults, Sends};
 ghost use Rattle.zot_session.specs.Session.{WritesPart};
 ghost use Rattle.zot_session.specs.Spelling.{HasStatus, spelling};
 
-use crate::failed::Failed;
-use crate::sink::Sink;
 use crate::spelling::spell_reply;
 use std::alloc::Global;
 use zot_model::Reply;
+use zot_outside::{Failed, Sink};
 
 /// How the sending of a reply ended.
 #[derive(Clone, Copy, Debug, PartialEq, Eq)]

@@ -1,7 +1,8 @@
 //! A session: the requests of one connection, answered in order.
 ghost use Rattle.std.specs.Prelude.{◌≡◌, ◌≢◌, IfNone, IfSome, [], Some};
+ghost use Rattle.zot_outside.specs.Faults.{Rose};
+ghost use Rattle.zot_outside.specs.Streams.{Takes};
 ghost use Rattle.zot_session.specs.Ends.{EndsAs, HasFailed};
-ghost use Rattle.zot_session.specs.Outside.{Rose, Takes};
 ghost use Rattle.zot_session.specs.Sending.{SendFaults};
 ghost use Rattle.zot_session.specs.Session.{Conducts, Served, is_blank, name_of};
 ghost use Rattle.zot_session.specs.Spelling.{HasStatus};
@@ -14,11 +15,10 @@ use crate::end::End;
 use crate::front::{Front, Message, read_front};
 use crate::inbox::{Filled, Inbox};
 use crate::sending::{Sent, send};
-use crate::sink::Sink;
-use crate::source::Source;
 use crate::spelling::status_of;
 use std::alloc::Global;
 use zot_model::{Reply, Request};
+use zot_outside::{Sink, Source};
 
 // One turn: takes a piece, or answers the message at the front, or ends the connection.
 fn turn<A: Answers, C: Source, K: Sink>(

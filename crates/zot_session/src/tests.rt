@@ -2,12 +2,13 @@
 ghost use Rattle.zot_session.specs.Spelling.{HasStatus};
 
 use crate::{
-    Answers, End, Front, HEAD_LIMIT, Head, MemorySink, MemorySource, Message, ReaderSource, Sink,
-    Source, WriterSink, read_front, read_head, session, spell_reply, status_of, write_all,
+    Answers, End, Front, HEAD_LIMIT, Head, Message, read_front, read_head, session, spell_reply,
+    status_of, write_all,
 };
 use std::alloc::Global;
 use std::test::Fail;
 use zot_digest::{Bytes, digest_of};
+use zot_fakes::{MemorySink, MemorySource};
 use zot_model::{Call, Code, Reply, Request};
 
 /// Refuses each request: a GET with 404, and a POST with 400.
@@ -213,7 +214,7 @@ fn connections(rt: HostRuntime) -> Result<(), Fail> {
     ] {
         let mut answers = Refuser { asked: 0 };
         let mut source = MemorySource::new(Vec::from_slice(alloc, input)?, 5, Vec::new(alloc));
-        let mut sink = MemorySink::new(alloc, 9, Vec::new(alloc));
+        let mut sink = MemorySink::in_pieces(alloc, 9, Vec::new(alloc));
         assert!(rt; session(alloc, &mut answers, &mut source, &mut sink) == end);
         assert_eq!(rt; answers.asked, asked);
     }
@@ -221,20 +222,14 @@ fn connections(rt: HostRuntime) -> Result<(), Fail> {
 }
 
 #[test]
-fn readers_and_writers(rt: HostRuntime) -> Result<(), Fail> {
+fn writing_in_pieces(rt: HostRuntime) -> Result<(), Fail> {
     let alloc = rt.alloc();
-    let mut source = ReaderSource::new(b"abc".as_slice());
-    let mut buf = [0; 2];
-    assert!(rt; source.read(&mut buf) == Ok(2));
-    assert!(rt; source.read(&mut buf) == Ok(1));
-    assert!(rt; source.read(&mut buf) == Ok(0));
-    let mut sink = WriterSink::new(Vec::new(alloc));
-    assert!(rt; write_all(&mut sink, b"abc").is_ok());
-    assert!(rt; sink.write(b"") == Ok(0));
-    let mut failing = Vec::new(alloc);
-    failing.push(2)?;
-    let mut sink = MemorySink::new(alloc, 2, failing);
-    assert!(rt; write_all(&mut sink, b"abc").is_err());
-    assert!(rt; sink.written() == b"ab".as_slice());
+    for (call, fails, written) in [(2, true, b"ab".as_slice()), (3, false, b"abc".as_slice())] {
+        let mut failing = Vec::new(alloc);
+        failing.push(call)?;
+        let mut sink = MemorySink::in_pieces(alloc, 2, failing);
+        assert_eq!(rt; write_all(&mut sink, b"abc").is_err(), fails);
+        assert!(rt; sink.written() == written);
+    }
     Ok(())
 }

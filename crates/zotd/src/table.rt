@@ -1,16 +1,17 @@
 //! A connection over one table of repositories.
 ghost use Rattle.std.specs.Prelude.{◌≡◌, ◌≢◌, IfSome};
 ghost use Rattle.zot_model.specs.History.{Run};
+ghost use Rattle.zot_outside.specs.Faults.{Rose};
 ghost use Rattle.zot_session.specs.Ends.{EndsAs, HasFailed};
-ghost use Rattle.zot_session.specs.Outside.{Rose};
 ghost use Rattle.zot_session.specs.Session.{Served};
 ghost use Rattle.zot_session.specs.declared.end.End.TheVariants as ends;
 ghost use Rattle.zotd.specs.Entries.{entries_of};
 
 use std::alloc::Global;
 use zot_model::{Reply, Request};
+use zot_outside::{Sink, Source};
 use zot_repo::RepoShard;
-use zot_session::{Answers, End, Sink, Source, session};
+use zot_session::{Answers, End, session};
 
 // What answers the requests of a connection from a table that was lent.
 #[derive(Drop)]

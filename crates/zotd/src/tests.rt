@@ -5,8 +5,9 @@ use crate::status::Status;
 use crate::table::serve_table;
 use std::alloc::Global;
 use std::test::Fail;
+use zot_fakes::{MemorySink, MemorySource};
 use zot_repo::RepoShard;
-use zot_session::{End, MemorySink, MemorySource};
+use zot_session::End;
 
 /// A POST of two bytes, and a GET of them.
 const FIRST: &[u8] =
@@ -56,8 +57,8 @@ fn run(
         piece,
         failing(alloc, read)?,
     );
-    let mut sink = MemorySink::new(alloc, piece, failing(alloc, write)?);
-    let mut notes = MemorySink::new(alloc, 3, Vec::new(alloc));
+    let mut sink = MemorySink::in_pieces(alloc, piece, failing(alloc, write)?);
+    let mut notes = MemorySink::in_pieces(alloc, 3, Vec::new(alloc));
     let status = run_waiting(alloc, texts.as_slice(), &mut source, &mut sink, &mut notes);
     Ok(Ran {
         code: status.code,
@@ -205,7 +206,7 @@ fn words_that_cannot_be_read(rt: HostRuntime) -> Result<(), Fail> {
         (true, 8, b"zotd: no memory\n".as_slice()),
         (false, 2, b"zotd: words\n".as_slice()),
     ] {
-        let mut notes = MemorySink::new(rt.alloc(), 5, Vec::new(rt.alloc()));
+        let mut notes = MemorySink::in_pieces(rt.alloc(), 5, Vec::new(rt.alloc()));
         assert!(rt; run_unread(no_memory, &mut notes) == Status { code });
         assert!(rt; notes.written() == line);
     }
@@ -227,7 +228,7 @@ fn statuses_and_lines(rt: HostRuntime) -> Result<(), Fail> {
         (End::Budget, 7, b"zotd: budget\n".as_slice()),
         (End::NoMemory, 8, b"zotd: no memory\n".as_slice()),
     ] {
-        let mut notes = MemorySink::new(rt.alloc(), 4, Vec::new(rt.alloc()));
+        let mut notes = MemorySink::in_pieces(rt.alloc(), 4, Vec::new(rt.alloc()));
         note_end(&mut notes, end);
         assert_eq!(rt; status_of(end), code);
         assert!(rt; notes.written() == line);
@@ -239,8 +240,8 @@ fn statuses_and_lines(rt: HostRuntime) -> Result<(), Fail> {
 fn failing_notes_keep_the_status(rt: HostRuntime) -> Result<(), Fail> {
     let alloc = rt.alloc();
     let mut source = MemorySource::new(Vec::new(alloc), 4, Vec::new(alloc));
-    let mut sink = MemorySink::new(alloc, 4, Vec::new(alloc));
-    let mut notes = MemorySink::new(alloc, 4, failing(alloc, 2)?);
+    let mut sink = MemorySink::in_pieces(alloc, 4, Vec::new(alloc));
+    let mut notes = MemorySink::in_pieces(alloc, 4, failing(alloc, 2)?);
     let status = run_waiting(alloc, &[], &mut source, &mut sink, &mut notes);
     assert!(rt; status == Status { code: 2 });
     assert!(rt; notes.written() == b"zotd".as_slice());
@@ -279,7 +280,7 @@ fn one_table_over_connections(rt: HostRuntime) -> Result<(), Fail> {
         ),
     ] {
         let mut source = MemorySource::new(Vec::from_slice(alloc, input)?, 32, Vec::new(alloc));
-        let mut sink = MemorySink::new(alloc, 32, Vec::new(alloc));
+        let mut sink = MemorySink::in_pieces(alloc, 32, Vec::new(alloc));
         assert!(rt; serve_table(alloc, &mut table, &mut source, &mut sink) == End::Closed);
         assert!(rt; sink.written().starts_with(first_line));
     }
