@@ -1,7 +1,9 @@
-mod HeadLemmas
-pub mod FrontLemmas
-mod InboxLemmas
-mod TurnLemmas
+pub mod InboxLemmas
+pub mod MessageLemmas
 pub mod SessionLemmas
 pub mod EndLemmas
-pub mod NameLemmas
+pub mod HeadingLemmas
+pub mod ReceiveLemmas
+pub mod ChunkLemmas
+pub mod TurnLemmas
+pub mod BlankLemmas

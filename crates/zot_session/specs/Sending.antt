@@ -1,4 +1,4 @@
--- What the sending of a reply says.
+-- What the sending of a text says.
 use Rattle.std.specs.Prelude.{◌≡◌, ℕ, List, Option}
 use Rattle.zot_outside.specs.Faults.{Rose}
 use Rattle.zot_outside.specs.Streams.{Appends}

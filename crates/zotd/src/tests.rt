@@ -17,9 +17,25 @@ const FIRST: &[u8] =
 const FIRST_REPLIES: &[u8] =
     b"HTTP/1.1 201 Created\r\nLocation: /v2/a/blobs/sha256:44136fa355b3678a1146ad16f7e8649e94fb4fc21fe77e8310c060f61caaff8a\r\nDocker-Content-Digest: sha256:44136fa355b3678a1146ad16f7e8649e94fb4fc21fe77e8310c060f61caaff8a\r\nContent-Length: 0\r\n\r\nHTTP/1.1 200 OK\r\nDocker-Content-Digest: sha256:44136fa355b3678a1146ad16f7e8649e94fb4fc21fe77e8310c060f61caaff8a\r\nContent-Type: application/octet-stream\r\nContent-Length: 2\r\n\r\n{}";
 
-/// What a head of no known form is answered.
-const NOT_BUILT: &[u8] =
-    b"HTTP/1.1 501 Not Implemented\r\nContent-Type: application/json\r\nContent-Length: 55\r\nConnection: close\r\n\r\n{\"errors\":[{\"code\":\"NOT_BUILT\",\"message\":\"not built\"}]}";
+/// What a message with no head is answered.
+const HEAD_INVALID: &[u8] =
+    b"HTTP/1.1 400 Bad Request\r\nContent-Type: application/json\r\nContent-Length: 61\r\nConnection: close\r\n\r\n{\"errors\":[{\"code\":\"HEAD_INVALID\",\"message\":\"head invalid\"}]}";
+
+/// What a message whose head is too long is answered.
+const HEAD_TOO_LONG: &[u8] =
+    b"HTTP/1.1 431 Request Header Fields Too Large\r\nContent-Type: application/json\r\nContent-Length: 63\r\nConnection: close\r\n\r\n{\"errors\":[{\"code\":\"HEAD_TOO_LONG\",\"message\":\"head too long\"}]}";
+
+/// What the base route is answered.
+const BASE: &[u8] =
+    b"HTTP/1.1 200 OK\r\nDocker-Distribution-Api-Version: registry/2.0\r\nContent-Type: application/json\r\nContent-Length: 2\r\n\r\n{}";
+
+/// Several requests behind one another: both methods of the base route, a blob in chunks whose sender waits, its HEAD, that of another one, a list that isn't built, a method that a path doesn't have, and one that closes the connection, with other bytes behind it.
+const WIRE: &[u8] =
+    b"\r\nGET /v2/ HTTP/1.1\r\n\r\nHEAD /v2 HTTP/1.1\r\nHost: r\r\n\r\nPOST /v2/a/b/blobs/uploads/?digest=sha256:44136fa355b3678a1146ad16f7e8649e94fb4fc21fe77e8310c060f61caaff8a HTTP/1.1\r\nExpect: 100-continue\r\nTransfer-Encoding: chunked\r\n\r\n1;x\r\n{\r\n01\r\n}\r\n0\r\nTrailer: t\r\n\r\nHEAD /v2/a/b/blobs/sha256:44136fa355b3678a1146ad16f7e8649e94fb4fc21fe77e8310c060f61caaff8a HTTP/1.1\r\n\r\nHEAD /v2/a/blobs/sha256:44136fa355b3678a1146ad16f7e8649e94fb4fc21fe77e8310c060f61caaff8a HTTP/1.1\r\n\r\nGET /v2/a/tags/list HTTP/1.1\r\n\r\nPUT /v2/a/blobs/x HTTP/1.1\r\nContent-Length: 1\r\n\r\nyGET /v2/ HTTP/1.1\r\nConnection: x, close\r\n\r\nGET /v2/ HTTP/1.1\r\n\r\n";
+
+/// The replies to them.
+const WIRE_REPLIES: &[u8] =
+    b"HTTP/1.1 200 OK\r\nDocker-Distribution-Api-Version: registry/2.0\r\nContent-Type: application/json\r\nContent-Length: 2\r\n\r\n{}HTTP/1.1 200 OK\r\nDocker-Distribution-Api-Version: registry/2.0\r\nContent-Type: application/json\r\nContent-Length: 2\r\n\r\nHTTP/1.1 100 Continue\r\n\r\nHTTP/1.1 201 Created\r\nLocation: /v2/a/b/blobs/sha256:44136fa355b3678a1146ad16f7e8649e94fb4fc21fe77e8310c060f61caaff8a\r\nDocker-Content-Digest: sha256:44136fa355b3678a1146ad16f7e8649e94fb4fc21fe77e8310c060f61caaff8a\r\nContent-Length: 0\r\n\r\nHTTP/1.1 200 OK\r\nDocker-Content-Digest: sha256:44136fa355b3678a1146ad16f7e8649e94fb4fc21fe77e8310c060f61caaff8a\r\nContent-Type: application/octet-stream\r\nContent-Length: 2\r\n\r\nHTTP/1.1 404 Not Found\r\nContent-Type: application/json\r\nContent-Length: 61\r\n\r\nHTTP/1.1 501 Not Implemented\r\nContent-Type: application/json\r\nContent-Length: 55\r\n\r\n{\"errors\":[{\"code\":\"NOT_BUILT\",\"message\":\"not built\"}]}HTTP/1.1 405 Method Not Allowed\r\nAllow: GET, HEAD, DELETE\r\nContent-Type: application/json\r\nContent-Length: 59\r\n\r\n{\"errors\":[{\"code\":\"UNSUPPORTED\",\"message\":\"unsupported\"}]}HTTP/1.1 200 OK\r\nDocker-Distribution-Api-Version: registry/2.0\r\nContent-Type: application/json\r\nContent-Length: 2\r\nConnection: close\r\n\r\n{}";
 
 /// What stands where a run ended.
 #[derive(Drop)]
@@ -83,19 +99,7 @@ fn ends_of_inputs(rt: HostRuntime) -> Result<(), Fail> {
     for (input, output, code, notes) in [
         (b"".as_slice(), b"".as_slice(), 0, b"".as_slice()),
         (b"\r\n".as_slice(), b"".as_slice(), 0, b"".as_slice()),
-        (b"\n\n\n".as_slice(), b"".as_slice(), 0, b"".as_slice()),
-        (
-            b"\r\n\r\n".as_slice(),
-            NOT_BUILT,
-            3,
-            b"zotd: refused 501\n".as_slice(),
-        ),
-        (
-            b"PUT /v2/a/blobs/x HTTP/1.1\r\nHost: r\r\n\r\n".as_slice(),
-            NOT_BUILT,
-            3,
-            b"zotd: refused 501\n".as_slice(),
-        ),
+        (b"\n\r\n\n".as_slice(), b"".as_slice(), 0, b"".as_slice()),
         (
             b"\r".as_slice(),
             b"".as_slice(),
@@ -108,11 +112,55 @@ fn ends_of_inputs(rt: HostRuntime) -> Result<(), Fail> {
             4,
             b"zotd: torn 14\n".as_slice(),
         ),
+        (
+            b"PUT / HTTP/1.1\r\nContent-Length: 2\r\nTransfer-Encoding: chunked\r\n\r\n".as_slice(),
+            HEAD_INVALID,
+            3,
+            b"zotd: refused 400\n".as_slice(),
+        ),
+        (
+            b"PUT / HTTP/1.1\r\nExpect: 100-continue\r\nContent-Length: 2\r\n\r\n{".as_slice(),
+            b"HTTP/1.1 100 Continue\r\n\r\n".as_slice(),
+            4,
+            b"zotd: torn 60\n".as_slice(),
+        ),
     ] {
         let ran = run(rt.alloc(), &["pipe"], input, 3, 0, 0)?;
         assert_eq!(rt; ran.code, code);
         assert!(rt; ran.output.as_slice() == output);
         assert!(rt; ran.notes.as_slice() == notes);
+    }
+    Ok(())
+}
+
+#[test]
+fn whole_wire_in_pieces(rt: HostRuntime) -> Result<(), Fail> {
+    for piece in [1, 5, 4_096] {
+        let ran = run(rt.alloc(), &["pipe"], WIRE, piece, 0, 0)?;
+        assert_eq!(rt; ran.code, 0);
+        assert!(rt; ran.output.as_slice() == WIRE_REPLIES);
+        assert!(rt; ran.notes.is_empty());
+    }
+    Ok(())
+}
+
+/// A GET of the base route whose head has so many bytes, at least 25.
+fn long_head(alloc: Global, size: usize) -> Result<Vec<u8>, Fail> {
+    let mut input = Vec::from_slice(alloc, b"GET /v2/ HTTP/1.1\r\nX:".as_slice())?;
+    for _ in 25..size {
+        input.push(b'x')?;
+    }
+    input.extend_from_slice(b"\r\n\r\n".as_slice())?;
+    Ok(input)
+}
+
+#[test]
+fn heads_at_their_limit(rt: HostRuntime) -> Result<(), Fail> {
+    for (size, code, output) in [(16_384, 0, BASE), (16_385, 3, HEAD_TOO_LONG)] {
+        let input = long_head(rt.alloc(), size)?;
+        let ran = run(rt.alloc(), &["pipe"], input.as_slice(), 4_096, 0, 0)?;
+        assert_eq!(rt; ran.code, code);
+        assert!(rt; ran.output.as_slice() == output);
     }
     Ok(())
 }
