@@ -1,5 +1,5 @@
 -- Calls that fail by a list of their numbers.
-use Rattle.std.specs.Prelude.{◌≡◌, ℕ, ◌+◌, ◌-◌, ◌^◌, ◌==◌, Bool, true, false, List, min, Result, OnOk, OnErr, if◌then◌else◌}
+use Rattle.std.specs.Prelude.{◌≡◌, ℕ, ◌+◌, ◌-◌, ◌^◌, ◌==◌, Bool, true, false, List, min, Result, OnOk, OnErr, if◌then◌else◌, is_err, ◌⊎◌}
 use Rattle.std.specs.List.{list_any}
 use Rattle.zot_outside.specs.declared.store_error.StoreError.{StoreError}
 use Rattle.zot_outside.specs.Faults.{OnFailed, UnlessFailed}
@@ -32,4 +32,10 @@ pub record ByList {T : Type 0} (before : Count) (result : Result T StoreError) (
 pub record FailsByList {T E : Type 0} (before : Count) (result : Result T E) (after : Count) : Type 0 where
   pub counts : after ≡ counted before
   pub listed : OnErr result (fails before ≡ true)
+  pub others : OnOk result (fails before ≡ false)
+
+-- the same of a call that may also fail for want of room, where it is short of it: each failure is counted once
+pub record FailsByListOr {T E : Type 0} (short : Type 0) (before : Count) (result : Result T E) (after : Count) : Type 0 where
+  pub counts : after ≡ record before { made = one_more before.made; faults = (if is_err result then one_more before.faults else before.faults) }
+  pub listed : OnErr result ((fails before ≡ true) ⊎ short)
   pub others : OnOk result (fails before ≡ false)

@@ -1,5 +1,5 @@
 -- What the sources, sinks, stores and clocks in memory tell.
-use Rattle.std.specs.Prelude.{ℕ, List, drop}
+use Rattle.std.specs.Prelude.{ℕ, ◌+◌, ◌<◌, List, drop, length, vec_capacity}
 use Rattle.zot_fakes.specs.Calls.{Count}
 use Rattle.zot_fakes.specs.declared.hand_clock.HandClock.{HandClock}
 use Rattle.zot_fakes.specs.declared.memory_sink.MemorySink.{MemorySink}
@@ -13,19 +13,29 @@ use Rattle.zot_outside.specs.Objects.{Objects}
 abbrev pub steady_left : SteadySource → List ℕ
 steady_left s = drop s.start s.bytes.items
 
--- the bytes that a source has left which fails by a list, and its calls
+-- the bytes that a source has left which fails by a list, how many of them a call gives at most, and its calls
 abbrev pub source_left : MemorySource → List ℕ
 source_left s = steady_left s.source
+
+abbrev pub source_piece : MemorySource → ℕ
+source_piece s = s.piece
 
 abbrev pub source_calls : MemorySource → Count
 source_calls s = s.calls
 
--- the bytes that were written to a sink, and its calls
+-- the bytes that were written to a sink, how many of them a call takes at most, and its calls
 abbrev pub sink_held : MemorySink → List ℕ
 sink_held s = s.bytes.items
 
+abbrev pub sink_piece : MemorySink → ℕ
+sink_piece s = s.piece
+
 abbrev pub sink_calls : MemorySink → Count
 sink_calls s = s.calls
+
+-- the memory that a sink has is too small for so many bytes more
+abbrev pub IsShortOf : ℕ → MemorySink → Type 0
+IsShortOf n s = vec_capacity s.bytes < length s.bytes.items + n
 
 -- the objects of a store that never fails
 abbrev pub steady_objects : SteadyStore → Objects

@@ -1,6 +1,6 @@
 //! A sink in memory that fails by a list.
-ghost use Rattle.std.specs.Prelude.{◌≡◌, ◌<◌, false, IfOk, OnErr, OnOk, Some, [], true};
-ghost use Rattle.zot_fakes.specs.Calls.{fails, one_more};
+ghost use Rattle.std.specs.Prelude.{◌≡◌, ◌<◌, ◌-◌, ◌^◌, IfOk, OnErr, Some, [], length, min};
+ghost use Rattle.zot_fakes.specs.Calls.{FailsByListOr};
 ghost use Rattle.zot_outside.specs.Faults.{HasCause};
 ghost use Rattle.zot_outside.specs.Streams.{Appends, Writes};
 
@@ -18,11 +18,12 @@ pub struct MemorySink {
 }
 
 impl MemorySink {
-    ghost use Rattle.zot_fakes.specs.Fakes.{sink_calls, sink_held};
+    ghost use Rattle.zot_fakes.specs.Fakes.{sink_calls, sink_held, sink_piece};
 
     /// A sink in which nothing is written yet, and which takes each piece whole. The calls whose numbers, from 1, are listed fail. Takes no memory.
     pub fn new(alloc: Global, failing: Vec<u64>) -> Self
         ensures held { sink_held result ≡ [] }
+        ensures piece { sink_piece result ≡ 2 ^ 64 - 1 }
         ensures calls { sink_calls result ≡ record { failing = failing.items; made = 0; faults = 0 } }
     {
         MemorySink::in_pieces(alloc, usize::MAX, failing)
@@ -32,6 +33,7 @@ impl MemorySink {
     pub fn in_pieces(alloc: Global, piece: usize, failing: Vec<u64>) -> Self
         requires { 0 < piece }
         ensures held { sink_held result ≡ [] }
+        ensures piece { sink_piece result ≡ piece }
         ensures calls { sink_calls result ≡ record { failing = failing.items; made = 0; faults = 0 } }
     {
         MemorySink {
@@ -51,7 +53,7 @@ impl MemorySink {
 
 impl Sink for MemorySink {
     ghost use Rattle.std.specs.Prelude.{Some};
-    ghost use Rattle.zot_fakes.specs.Fakes.{sink_calls, sink_held};
+    ghost use Rattle.zot_fakes.specs.Fakes.{IsShortOf, sink_calls, sink_held, sink_piece};
 
     ghost held = { λ s. Some (sink_held s) };
 
@@ -61,8 +63,9 @@ impl Sink for MemorySink {
         ensures cause { HasCause (sink_calls self.old).faults (sink_calls self.new).faults result }
         ensures ok { IfOk result (λ n. Writes (Some (sink_held self.old)) piece.now n (Some (sink_held self.new))) }
         ensures err { OnErr result (Appends (Some (sink_held self.old)) [] (Some (sink_held self.new))) }
-        ensures listed { OnOk result (fails (sink_calls self.old) ≡ false) }
-        ensures counts { ((sink_calls self.new).made ≡ one_more (sink_calls self.old).made) × ((sink_calls self.new).failing ≡ (sink_calls self.old).failing) }
+        ensures listed { FailsByListOr (IsShortOf (min (length piece.now) (sink_piece self.old)) self.old) (sink_calls self.old) result (sink_calls self.new) }
+        ensures takes { IfOk result (λ n. n ≡ min (length piece.now) (sink_piece self.old)) }
+        ensures piece { sink_piece self.new ≡ sink_piece self.old }
     {
         let listed = self.calls.next_fails();
         let n = piece.len().min(self.piece);

@@ -1,5 +1,7 @@
 //! A source in memory that never fails.
-ghost use Rattle.std.specs.Prelude.{◌≡◌, ◌≤◌, vec_len};
+ghost use Rattle.std.specs.Prelude.{◌≡◌, ◌≤◌, IfOk, OnErr, Some, [], length, min, vec_len};
+ghost use Rattle.zot_outside.specs.Faults.{HasCause};
+ghost use Rattle.zot_outside.specs.Streams.{Reads, Takes};
 
 use zot_outside::{Failed, Source};
 
@@ -30,7 +32,12 @@ impl Source for SteadySource {
 
     ghost faults = { λ _. 0 };
 
-    fn read(&mut self, buf: &mut [u8]) -> Result<usize, Failed> {
+    fn read(&mut self, buf: &mut [u8]) -> Result<usize, Failed>
+        ensures cause { HasCause 0 0 result }
+        ensures ok { IfOk result (λ n. Reads (Some (steady_left self.old)) (length buf.old) buf.new n (Some (steady_left self.new))) }
+        ensures err { OnErr result (Takes (Some (steady_left self.old)) [] (Some (steady_left self.new))) }
+        ensures gives { IfOk result (λ n. n ≡ min (length buf.old) (length (steady_left self.old))) }
+    {
         let n = buf.len().min(self.bytes.len() - self.start);
         let end = self.start + n;
         buf[..n].copy_from_slice(&self.bytes[self.start..end]);

@@ -204,6 +204,45 @@ extent_within part_end limit n a is h =
     found None true e = absurd cc
     found None false e = absurd cc
 
+-- a section's end behind the empty lines in front
+pub head_end-behind : (bytes : List ℕ) (blank : ℕ) (o : Option ℕ) → blank ≡ blank_len bytes → o ≡ section_end false (take (length bytes - blank) (drop blank bytes))
+    → option_map (λ n. blank + n) o ≡ head_end bytes
+head_end-behind bytes blank o is e =
+    let all : take (length bytes - blank) (drop blank bytes) ≡ drop blank bytes = take_all (length bytes - blank) (drop blank bytes) (omega (arith, length-drop blank bytes)) in
+    rw (e, all, is) refl
+
+-- ---- a section, byte by byte
+
+-- one byte on, where no empty line ends with it
+section_end-goes : (starts : Bool) (b : ℕ) (rest : List ℕ) → (starts ≡ true → b ≢ 10) → (starts ≡ true → (b ≢ 13) ⊎ (begins_feed rest ≡ false))
+    → section_end starts (b ∷ rest) ≡ option_map suc (section_end (eqb b 10) rest)
+section_end-goes false b rest feed return = refl
+section_end-goes true b rest feed return =
+    let e : eqb b 10 ≡ false = other b 10 (feed refl) in
+    elim (return refl) [
+      | inl n ↦ let f : eqb b 13 ≡ false = other b 13 n in rw (e, f) refl
+      | inr f ↦ rw (e, f) (either (eqb b 13))
+    ]
+  where
+    other : (b c : ℕ) → b ≢ c → eqb b c ≡ false
+    other b c n = grind (arith, nat_tests)
+
+    either : (t : Bool) → cond (t && false) (Some 2) (option_map suc (section_end false rest)) ≡ option_map suc (section_end false rest)
+    either true = refl
+    either false = refl
+
+one_on : (i : ℕ) (o : Option ℕ) → option_map (λ n. i + n) (option_map suc o) ≡ option_map (λ n. i + 1 + n) o
+one_on i None = refl
+one_on i (Some n) = ap Some (omega arith)
+
+-- the same at a place
+pub section_end-step : (bytes : List ℕ) (i : ℕ) (starts : Bool) → i < length bytes → (starts ≡ true → get_or bytes i 0 ≢ 10) → (starts ≡ true → (get_or bytes i 0 ≢ 13) ⊎ (begins_feed (drop (i + 1) bytes) ≡ false))
+    → section_end false bytes ≡ option_map (λ n. i + n) (section_end starts (drop i bytes)) → section_end false bytes ≡ option_map (λ n. i + 1 + n) (section_end (eqb (get_or bytes i 0) 10) (drop (i + 1) bytes))
+section_end-step bytes i starts lt feed return so_far =
+    so_far ∙ ap (λ (r : List ℕ). option_map (λ n. i + n) (section_end starts r)) (drop_more bytes i 0 lt)
+    ∙ ap (option_map (λ n. i + n)) (section_end-goes starts (get_or bytes i 0) (drop (i + 1) bytes) feed return)
+    ∙ one_on i (section_end (eqb (get_or bytes i 0) 10) (drop (i + 1) bytes))
+
 -- ---- empty lines in front, one by one
 
 abbrev at : List ℕ → ℕ → ℕ

@@ -1,6 +1,5 @@
 -- Several pieces of a body in chunks, read one behind another.
 use Rattle.std.proofs.Common.{◌≡◌, ◌⊎◌, ℕ, ◌+◌, ◌<◌, ◌≤◌, Bool, true, false, not, List, [], ◌∷◌, ◌++◌, length, take, drop, get_or, refl, sym, ap, subst, ◌∙◌, arith, append_assoc, inl, inr, Ok, Err}
-use Rattle.std.specs.Prelude.{IsTrue}
 use Rattle.std.specs.List.{flat_map}
 use Rattle.std.proofs.lemmas.List.{length-append, append-nil, drop_all, drop-append-le, take_more, take-append-drop}
 use Rattle.std.proofs.lemmas.Grind.{flat_map-append}

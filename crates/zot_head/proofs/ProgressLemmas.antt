@@ -1,11 +1,11 @@
 -- A body in chunks, one byte or some bytes of a chunk on.
-use Rattle.std.proofs.Common.{◌≡◌, ◌≢◌, ◌⊎◌, ℕ, zero, suc, ◌+◌, ◌-◌, ◌<◌, ◌≤◌, Bool, true, false, cond, eqb, leb, ltb, List, [], ◌∷◌, ◌++◌, length, take, drop, get_or, refl, sym, ap, ◌∙◌, arith, inl, inr, Option, Some, None, append_assoc}
+use Rattle.std.proofs.Common.{◌≡◌, ◌≢◌, ◌⊎◌, ℕ, zero, suc, ◌+◌, ◌-◌, ◌<◌, ◌≤◌, Bool, true, false, cond, eqb, leb, ltb, List, [], ◌∷◌, ◌++◌, length, take, drop, refl, sym, ap, ◌∙◌, arith, inl, inr, Option, Some, None, append_assoc}
 use Rattle.std.specs.Prelude.{option_map, Ok, Err, IsTrue}
 use Rattle.std.proofs.lemmas.List.{length-append, length-take, take_all, take_at, drop_at, append-nil, take-append-drop, drop_all}
 use Rattle.std.proofs.lemmas.Bool.Decides.{nat_tests}
 use Rattle.std.proofs.Math.Seq.{take-append-add, drop-append-add}
 use Rattle.zot_head.specs.declared.chunk_error.ChunkError.{ChunkError}
-use Rattle.zot_head.specs.declared.chunk_error.ChunkError.TheVariants.{Bad, TooLong, TooLarge, NoMemory}
+use Rattle.zot_head.specs.declared.chunk_error.ChunkError.TheVariants.{Bad, NoMemory}
 use Rattle.zot_head.specs.declared.fed.Fed.{Fed}
 use Rattle.zot_head.specs.declared.stage.LineSoFar.{LineSoFar}
 use Rattle.zot_head.specs.declared.stage.LineSoFar.TheVariants.{Start, Return, Inside}

@@ -1,6 +1,6 @@
 -- Reading a head: its lines, the spans of its parts, and when bytes are none.
 use Rattle.std.proofs.Common.{◌≡◌, ℕ, ◌+◌, ◌<◌, ◌≤◌, Bool, true, false, IsTrue, List, [], ◌∷◌, length, map, take, drop, refl, sym, ap, subst, ◌∙◌, arith, inl, inr, Some, None, ltb}
-use Rattle.std.specs.Prelude.{All, IsUtf8}
+use Rattle.std.specs.Prelude.{All, IsUtf8, Result, Err}
 use Rattle.std.proofs.lemmas.List.{append-nil, take_all, drop_all, length-drop}
 use Rattle.std.proofs.lemmas.Bool.{cases_lt}
 use Rattle.std.proofs.lemmas.Bool.Decides.{nat_tests}
@@ -9,11 +9,13 @@ use Rattle.std.proofs.lemmas.Str.{IsUtf8-from_ascii}
 use Rattle.std.proofs.lemmas.Str.Ascii.{IsAscii-from_all}
 use Rattle.httparse.specs.declared.spans.HeaderSpan.{HeaderSpan}
 use Rattle.httparse.specs.declared.spans.RequestSpans.{RequestSpans}
-use Rattle.httparse.specs.Grammar.{is_token_byte, AllPass, Field as FieldLine, IsField, RequestHead, print_request, ReadsRequest, HasNoRequest}
+use Rattle.httparse.specs.Grammar.{is_token_byte, AllPass, Field as FieldLine, IsField, RequestHead, print_request, ReadsRequest}
 use Rattle.httparse.specs.Spans.{span_bytes, header_bytes, name_and_value, IsHeaderWithin, IsRequestWithin, IsRequestAt, RequestOverflows}
 use Rattle.httparse.proofs.GrammarLemmas.{request_unique}
 use Rattle.zot_head.specs.declared.field.Field.{Field}
 use Rattle.zot_head.specs.declared.head.Head.{Head}
+use Rattle.zot_head.specs.declared.head_error.HeadError.{HeadError}
+use Rattle.zot_head.specs.declared.head_error.HeadError.TheVariants.{Bad, TooLong, NoMemory}
 use Rattle.zot_head.specs.Fields.{framing_of}
 use Rattle.zot_head.specs.Front.{field_of, IsCrowded, HasParts, IsHead, IsNoHead}
 use Rattle.zot_head.specs.Limits.{line_limit}
@@ -162,6 +164,22 @@ is_no_head bytes spans r h few le at none = no_head-framing bytes h few (whole_r
 
 pub no_head-short : (bytes : List ℕ) (spans : List HeaderSpan) (r : RequestSpans) (h : RequestHead) → ¬ (IsCrowded bytes) → r.len < length bytes → IsRequestAt bytes spans r h → IsNoHead bytes
 no_head-short bytes spans r h few lt at = no_head-longer bytes (drop r.len bytes) h few at.reads (omega (arith, lt, length-drop r.len bytes))
+
+-- an answer isn't another one
+abbrev Refused : HeadError → Result Head HeadError
+Refused error = Err error
+
+pub bad-too_long : Refused Bad ≡ Refused TooLong → ⊥
+bad-too_long e = cc
+
+pub bad-no_memory : Refused Bad ≡ Refused NoMemory → ⊥
+bad-no_memory e = cc
+
+pub too_long-bad : Refused TooLong ≡ Refused Bad → ⊥
+too_long-bad e = cc
+
+pub too_long-no_memory : Refused TooLong ≡ Refused NoMemory → ⊥
+too_long-no_memory e = cc
 
 -- a test that isn't true
 pub not_crowded : (bytes : List ℕ) (t : Bool) → (IsTrue t → IsCrowded bytes) × (IsCrowded bytes → IsTrue t) → t ≡ false → ¬ (IsCrowded bytes)

@@ -105,9 +105,10 @@ impl Chunks {
         }
     }
 
-    /// Reads the next piece, and adds the body's bytes in it to `out`. `done` comes with the body's last
-    /// byte; `taken` tells what belongs to the body in chunks, and the whole piece does until then. An
-    /// error stands for good: it is answered at each later call. What was given out before it stays.
+    /// Reads the next piece, and adds the body's bytes in it to `out`. `done` comes with the last byte of
+    /// the trailer section; `taken` tells how many bytes belong to the body in chunks, and until then all
+    /// of the piece do. An error is answered again at each later call, and what was given out before it
+    /// stays. `NoMemory` comes first only where the piece has a byte of the body that isn't given out.
     pub fn feed(&mut self, piece: &[u8], out: &mut Vec<u8>) -> Result<Fed, ChunkError>
         ensures { Feeds self.old piece.now result self.new out.old.items out.new.items }
     {

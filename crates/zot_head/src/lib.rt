@@ -37,3 +37,4 @@ pub use crate::laws::{
     only_sent_is_read, refused_for_its_bytes, sent_is_read,
 };
 pub use crate::read::read_head;
+pub use crate::rules::{first_named, length_of};

@@ -27,8 +27,8 @@ fn count_named(fields: &[Field], name: &[u8]) -> usize
     count
 }
 
-/// The value of the first field of that name.
-fn first_named<'a>(fields: &'a [Field], name: &[u8]) -> Option<&'a [u8]>
+/// The value of the first field of that name, which has no capital letter; names are compared without regard to case. Takes no memory.
+pub fn first_named<'a>(fields: &'a [Field], name: &[u8]) -> Option<&'a [u8]>
     requires { map to_ascii_lowercase name.now ≡ name.now }
     ensures { MatchOption result (values_of name.now fields.now ≡ [])
         (λ value. (rest : List (List ℕ)) × (values_of name.now fields.now ≡ value.now ∷ rest)) }
@@ -62,9 +62,7 @@ fn is_close_word(piece: &[u8]) -> bool
 fn lists_close(value: &[u8]) -> bool
     ensures { result ≡ lists_close_of value.now }
 {
-    value
-        .split(|b| *b == b',')
-        .any(|piece| is_close_word(piece))
+    value.split(|b| *b == b',').any(is_close_word)
 }
 
 /// Whether a field asks to close the connection.
@@ -79,14 +77,14 @@ fn is_close(field: &Field) -> bool
 fn asks_continue(fields: &[Field]) -> bool
     ensures { result ≡ list_any is_expectation_of fields.now }
 {
-    fields.iter().any(|field| is_expectation(field))
+    fields.iter().any(is_expectation)
 }
 
 /// Whether some field asks to close the connection.
 fn asks_close(fields: &[Field]) -> bool
     ensures { result ≡ list_any is_close_of fields.now }
 {
-    fields.iter().any(|field| is_close(field))
+    fields.iter().any(is_close)
 }
 
 /// Whether a `100 Continue` is owed before the body is read.
@@ -108,12 +106,12 @@ pub(crate) fn closes(minor: u8, fields: &[Field]) -> bool
     minor == 0 || asks_close(fields)
 }
 
-/// The number that 1 to 18 decimal digits write.
+/// The number that 1 to 18 decimal digits write, or none where the bytes are no such digits. Takes no memory.
 #[tactic(auto, unfolding(crate::specs::Fields::length_of))]
-fn length_of(value: &[u8]) -> Option<u64>
+pub fn length_of(value: &[u8]) -> Option<u64>
     ensures { result ≡ length_of_value value.now }
 {
-    if value.is_empty() || value.len() > MAX_DIGITS || !value.iter().all(|b| b.is_ascii_digit()) {
+    if value.is_empty() || value.len() > MAX_DIGITS || !value.iter().all(u8::is_ascii_digit) {
         return None;
     }
     Some(digits_value(10, value))

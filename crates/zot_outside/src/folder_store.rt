@@ -1,5 +1,7 @@
 //! A folder as a store.
-ghost use Rattle.std.specs.Prelude.{◌≡◌, ◌≤◌, ℕ, IfOk, None, string_bytes};
+ghost use Rattle.std.specs.Prelude.{◌≡◌, ◌≤◌, ◌↔◌, ℕ, IfOk, MatchOption, None, string_bytes};
+ghost use Rattle.std.specs.IoError.{error_kind};
+ghost use Rattle.std.specs.declared.io.ErrorKind.TheVariants as kinds;
 ghost use Rattle.zot_outside.specs.declared.store_error.StoreError.TheVariants as errors;
 ghost use Rattle.zot_outside.specs.Faults.{HasStoreCause, OnMissing, Rose};
 
@@ -55,15 +57,15 @@ impl<R: Drop> FolderStore<R> {
         StoreError::Failed
     }
 
-    // What a call answers whose work failed.
+    // What a call answers whose work failed: `NoMemory` exactly where memory ran out.
     fn refuse(&mut self, error: io::Error) -> StoreError
         ensures cause { HasStoreCause {T = ℕ} self.old.faults self.new.faults (Err result) }
         ensures missing { OnMissing {T = ℕ} (Err result) ⊥ }
+        ensures memory { (result ≡ errors.NoMemory) ↔ (error_kind error ≡ kinds.OutOfMemory) }
     {
-        if error.kind() == ErrorKind::OutOfMemory {
-            StoreError::NoMemory
-        } else {
-            self.fault()
+        match error.kind() {
+            ErrorKind::OutOfMemory => StoreError::NoMemory,
+            _ => self.fault(),
         }
     }
 
@@ -71,6 +73,7 @@ impl<R: Drop> FolderStore<R> {
     fn done<T>(&mut self, done: io::Result<T>) -> Result<T, StoreError>
         ensures cause { HasStoreCause self.old.faults self.new.faults result }
         ensures ok { IfOk result (λ x. done ≡ Ok x) }
+        ensures whole { IfOk done (λ x. result ≡ Ok x) }
         ensures missing { OnMissing result ⊥ }
     {
         match done {
@@ -84,6 +87,7 @@ impl<R: Drop> FolderStore<R> {
         ensures cause { HasStoreCause self.old.faults self.new.faults result }
         ensures ok { IfOk result (λ x. found ≡ Ok (Some x)) }
         ensures missing { OnMissing result (found ≡ Ok None) }
+        ensures whole { IfOk found (λ one. MatchOption one (result ≡ Err errors.Missing) (λ x. result ≡ Ok x)) }
     {
         match found {
             Ok(Some(x)) => Ok(x),

@@ -1,24 +1,21 @@
 -- The end of a connection is that of its bytes.
-use Rattle.std.proofs.Common.{◌≡◌, ◌≢◌, ℕ, ◌+◌, ◌-◌, ◌<◌, ◌≤◌, nat_le, Bool, true, false, List, [], ◌∷◌, ◌++◌, length, take, drop, map, Option, Some, None, refl, sym, ap, ◌∙◌, subst, arith}
+use Rattle.std.proofs.Common.{◌≡◌, ℕ, ◌+◌, ◌-◌, ◌<◌, ◌≤◌, ◌⊎◌, inl, inr, nat_le, Bool, true, false, List, [], ◌∷◌, ◌++◌, length, take, map, Option, Some, None, refl, sym, ap, ◌∙◌, subst, arith}
 use Rattle.std.specs.Prelude.{if◌then◌else◌, IfSome}
 use Rattle.std.proofs.lemmas.Bool.{le-leb, leb-true}
 use Rattle.std.proofs.lemmas.List.{append-nil, length-append, take_all}
 use Rattle.std.proofs.Math.Seq.{take-append-add}
-use Rattle.zot_model.specs.declared.reply.Reply.{Reply}
+use Rattle.zot_head.specs.Front as fronts
+use Rattle.zot_head.specs.Front.{Front, Refusal}
+use Rattle.zot_head.proofs.FrontLemmas.{front_unique}
+use Rattle.zot_model.specs.Valid.{body_limit}
+use Rattle.zot_outside.specs.Streams.{IsOver, Takes}
 use Rattle.zot_session.specs.declared.end.End.{End}
 use Rattle.zot_session.specs.declared.end.End.TheVariants as ends
-use Rattle.zot_session.specs.declared.front.Front.TheVariants.{Closing, Partial}
-use Rattle.zot_session.specs.declared.front.Message.{Message}
-use Rattle.zot_session.specs.Ends.{EndsAs, HasFailed, end_by}
-use Rattle.zot_session.specs.Front.{Messages, front_of}
-use Rattle.zot_session.specs.Outside.{IsOver, Takes}
-use Rattle.zot_session.specs.Session.{Exchange, Served, is_blank, message_of}
-use Rattle.zot_session.specs.Spelling.{status_in}
+use Rattle.zot_session.specs.Ends.{EndsAs, EndsAt, HasFailed, end_over}
+use Rattle.zot_session.specs.Messages.{IsPartial, IsRefused, Message, Messages, Stands, is_blank, status_of}
+use Rattle.zot_session.specs.Session.{Ending, EndsBehind, EndsWith, Exchange, Served, StayOpen, behind, closes, message_of, with_last}
 use Rattle.zot_session.specs.Waiting.{budget}
-use Rattle.zot_session.proofs.FrontLemmas.{Messages-more, front_of-more}
-
-le_true : (a b : ℕ) → a ≤ b → nat_le a b ≡ true
-le_true a b h = le-leb a b h
+use Rattle.zot_session.proofs.MessageLemmas.{Messages-last, Messages-more, map-push, refused_more, stands_more}
 
 not_le : (a b : ℕ) (t : Bool) → nat_le a b ≡ t → b < a → t ≡ false
 not_le a b true e h = absurd (omega (arith, leb-true a b e))
@@ -27,12 +24,6 @@ not_le a b false e h = refl
 le_false : (a b : ℕ) → b < a → nat_le a b ≡ false
 le_false a b h = not_le a b (nat_le a b) refl h
 
-blank_end : (rest : List ℕ) → is_blank rest ≡ true → end_by false Partial rest ≡ Some ends.Closed
-blank_end rest h = ap (λ b. if b then Some ends.Closed else Some (ends.Torn (length rest))) h
-
-torn_end : (rest : List ℕ) (n : ℕ) → is_blank rest ≡ false → n ≡ length rest → end_by false Partial rest ≡ Some (ends.Torn n)
-torn_end rest n h is = ap (λ b. if b then Some ends.Closed else Some (ends.Torn (length rest))) h ∙ ap (λ k. Some (ends.Torn k)) (sym is)
-
 -- nothing is left behind what was taken
 taken_all : (bytes taken : List ℕ) (left' : Option (List ℕ)) → Takes (Some bytes) taken left' → IsOver left' → bytes ≡ taken
 taken_all bytes taken None h over = cc h.2
@@ -40,89 +31,134 @@ taken_all bytes taken (Some l) h over =
     let same : l ≡ h.0 = cc h.2 in
     h.1 ∙ ap (λ r. taken ++ r) (sym same ∙ over) ∙ append-nil taken
 
-short_end : (bytes rest : List ℕ) (messages : List Message) (end : End) → Messages bytes messages rest → length bytes < budget → front_of rest ≡ Partial → end_by false Partial rest ≡ Some end
-    → EndsAs bytes end
-short_end bytes rest messages end all short partial is = record {
-  messages = messages;
-  rest = rest;
-  all = subst (λ b. Messages b messages rest) (sym (take_all budget bytes (omega arith))) all;
-  end_is = ap (λ full. end_by full (front_of rest) rest) (le_false budget (length bytes) short) ∙ ap (λ front. end_by false front rest) partial ∙ is;
-}
-
 -- as many of the bytes as the connection may bring begin with what was taken
 within_budget : (taken more : List ℕ) → length taken ≤ budget → take budget (taken ++ more) ≡ taken ++ take (budget - length taken) more
 within_budget taken more h =
     let split : budget ≡ length taken + (budget - length taken) = omega arith in
     ap (λ k. take k (taken ++ more)) split ∙ take-append-add taken more (budget - length taken)
 
-full_end : (bytes taken more rest : List ℕ) (messages : List Message) → bytes ≡ taken ++ more → length taken ≡ budget → Messages taken messages rest → front_of rest ≡ Partial → EndsAs bytes ends.Budget
-full_end bytes taken more rest messages is full all partial =
+-- an end behind messages that leave the connection open is the end of all
+ends_after : (full : Bool) (bytes rest : List ℕ) (exchanges : List Exchange) (more : List Message) (end : End) → Messages bytes (map message_of exchanges) rest → StayOpen exchanges → EndsAt full rest more end
+    → EndsAt full bytes (map message_of exchanges ++ more) end
+ends_after full bytes rest [] more end h stay k = subst (λ b. EndsAt full b more end) (sym h) k
+ends_after full bytes rest (exchange ∷ exchanges) more end h stay k = (h.0, h.1, inr (stay.0, ends_after full h.0 rest exchanges more end h.2 stay.1 k))
+
+-- all that was taken is all that the connection brings
+short_end : (bytes taken rest : List ℕ) (exchanges : List Exchange) (end : End) → bytes ≡ taken → Messages taken (map message_of exchanges) rest → StayOpen exchanges → length taken < budget
+    → IsPartial rest → end ≡ end_over false rest → EndsAs bytes end
+short_end bytes taken rest exchanges end same all stay short partial is =
+    let size = ap length same in
+    let cut : take budget bytes ≡ taken = take_all budget bytes (omega arith) ∙ same in
+    let full : nat_le budget (length bytes) ≡ false = le_false budget (length bytes) (omega arith) in record {
+      messages = map message_of exchanges ++ [];
+      ends_at = subst (λ b. EndsAt (nat_le budget (length bytes)) b (map message_of exchanges ++ []) end) (sym cut)
+          (subst (λ f. EndsAt f taken (map message_of exchanges ++ []) end) (sym full) (ends_after false taken rest exchanges [] end all stay (inr (partial, is))));
+    }
+
+full_end : (bytes taken more rest : List ℕ) (exchanges : List Exchange) → bytes ≡ taken ++ more → length taken ≡ budget → Messages taken (map message_of exchanges) rest → StayOpen exchanges → IsPartial rest
+    → EndsAs bytes ends.Budget
+full_end bytes taken more rest exchanges is full all stay partial =
     let longer = length-append taken more in
     let size : length bytes ≡ length (taken ++ more) = ap length is in
     let none : budget - length taken ≡ 0 = omega arith in
-    let same : take budget bytes ≡ taken = ap (take budget) is ∙ within_budget taken more (omega arith) ∙ ap (λ k. taken ++ take k more) none ∙ append-nil taken in record {
-      messages = messages;
-      rest = rest;
-      all = subst (λ b. Messages b messages rest) (sym same) all;
-      end_is = ap (λ full. end_by full (front_of rest) rest) (le_true budget (length bytes) (omega arith)) ∙ ap (λ front. end_by true front rest) partial;
+    let cut : take budget bytes ≡ taken = ap (take budget) is ∙ within_budget taken more (omega arith) ∙ ap (λ k. taken ++ take k more) none ∙ append-nil taken in
+    let le : nat_le budget (length bytes) ≡ true = le-leb budget (length bytes) (omega arith) in record {
+      messages = map message_of exchanges ++ [];
+      ends_at = subst (λ b. EndsAt (nat_le budget (length bytes)) b (map message_of exchanges ++ []) ends.Budget) (sym cut)
+          (subst (λ f. EndsAt f taken (map message_of exchanges ++ []) ends.Budget) (sym le) (ends_after true taken rest exchanges [] ends.Budget all stay (inr (partial, refl))));
     }
 
-closing_by : (full : Bool) (reply : Reply) (rest : List ℕ) → end_by full (Closing reply) rest ≡ Some (ends.Refused (status_in reply))
-closing_by true reply rest = refl
-closing_by false reply rest = refl
-
-closing_end : (bytes taken more rest : List ℕ) (messages : List Message) (reply : Reply) (status : ℕ) → bytes ≡ taken ++ more → length taken ≤ budget → Messages taken messages rest → front_of rest ≡ Closing reply
-    → status ≡ status_in reply → EndsAs bytes (ends.Refused status)
-closing_end bytes taken more rest messages reply status is within all closing status_is =
-    let behind = take (budget - length taken) more in
-    let decided : front_of rest ≢ Partial = λ partial. cc (partial, closing) in record {
-      messages = messages;
-      rest = rest ++ behind;
-      all = subst (λ b. Messages b messages (rest ++ behind)) (sym (ap (take budget) is ∙ within_budget taken more within)) (Messages-more taken behind messages rest all);
-      end_is = ap (λ front. end_by (nat_le budget (length bytes)) front (rest ++ behind)) (front_of-more rest behind decided ∙ closing)
-          ∙ closing_by (nat_le budget (length bytes)) reply (rest ++ behind) ∙ ap (λ s. Some (ends.Refused s)) (sym status_is);
+-- a refusal, or a message that closes the connection, ends it whatever stands behind
+decided_end : (bytes taken more rest : List ℕ) (exchanges : List Exchange) (last : List Message) (end : End) → bytes ≡ taken ++ more → length taken ≤ budget → Messages taken (map message_of exchanges) rest → StayOpen exchanges
+    → ((full : Bool) (behind : List ℕ) → EndsAt full (rest ++ behind) last end) → EndsAs bytes end
+decided_end bytes taken more rest exchanges last end is within all stay ends_so =
+    let tail = take (budget - length taken) more in
+    let cut : take budget bytes ≡ taken ++ tail = ap (take budget) is ∙ within_budget taken more within in record {
+      messages = map message_of exchanges ++ last;
+      ends_at = subst (λ b. EndsAt (nat_le budget (length bytes)) b (map message_of exchanges ++ last) end) (sym cut)
+          (ends_after (nat_le budget (length bytes)) (taken ++ tail) (rest ++ tail) exchanges last end (Messages-more taken tail (map message_of exchanges) rest all) stay (ends_so (nat_le budget (length bytes)) tail));
     }
 
--- where nothing failed, the end is that of the bytes
-served_ends : (history : List Exchange → Type 0) (end : End) (bytes : List ℕ) (left' held held' : Option (List ℕ)) → Served history end (Some bytes) left' held held' → ¬ HasFailed end → EndsAs bytes end
-served_ends history ends.Closed bytes left' held held' s sound =
-    let same = taken_all bytes s.taken left' s.reads s.ending.2 in
-    short_end bytes s.rest (map message_of s.exchanges) ends.Closed (subst (λ b. Messages b (map message_of s.exchanges) s.rest) (sym same) s.messages)
-    (subst (λ b. length b < budget) (sym same) s.ending.0.room) s.ending.0.partial (blank_end s.rest s.ending.1)
-served_ends history (ends.Refused status) bytes left' held held' s sound =
-    closing_end bytes s.taken s.reads.0 s.rest (map message_of s.exchanges) s.ending.0 status s.reads.1 s.within s.messages s.ending.1 s.ending.2
-served_ends history (ends.Torn n) bytes left' held held' s sound =
-    let same = taken_all bytes s.taken left' s.reads s.ending.3 in
-    short_end bytes s.rest (map message_of s.exchanges) (ends.Torn n) (subst (λ b. Messages b (map message_of s.exchanges) s.rest) (sym same) s.messages)
-    (subst (λ b. length b < budget) (sym same) s.ending.0.room) s.ending.0.partial (torn_end s.rest n s.ending.1 s.ending.2)
-served_ends history ends.ReadFault bytes left' held held' s sound = absurd (sound tt)
-served_ends history ends.WriteFault bytes left' held held' s sound = absurd (sound tt)
-served_ends history ends.Budget bytes left' held held' s sound = full_end bytes s.taken s.reads.0 s.rest (map message_of s.exchanges) s.reads.1 s.ending.1 s.messages s.ending.0
-served_ends history ends.NoMemory bytes left' held held' s sound = absurd (sound tt)
+blank_end : (rest : List ℕ) → is_blank rest ≡ true → ends.Closed ≡ end_over false rest
+blank_end rest h = sym (ap (λ b. if b then ends.Closed else ends.Torn (length rest)) h)
+
+torn_end : (rest : List ℕ) (n : ℕ) → is_blank rest ≡ false → n ≡ length rest → ends.Torn n ≡ end_over false rest
+torn_end rest n h is = ap (λ k. ends.Torn k) is ∙ sym (ap (λ b. if b then ends.Closed else ends.Torn (length rest)) h)
+
+-- an end behind the exchanges is that of the bytes
+behind_ends : (end : End) (bytes taken rest text : List ℕ) (exchanges : List Exchange) (left' : Option (List ℕ)) → Takes (Some bytes) taken left' → length taken ≤ budget → Messages taken (map message_of exchanges) rest
+    → StayOpen exchanges → EndsBehind end (length taken) rest left' text → ¬ HasFailed end → EndsAs bytes end
+behind_ends ends.Closed bytes taken rest text exchanges left' reads within all stay h sound =
+    short_end bytes taken rest exchanges ends.Closed (taken_all bytes taken left' reads h.2) all stay h.0.room h.0.partial (blank_end rest h.1)
+behind_ends (ends.Refused status) bytes taken rest text exchanges left' reads within all stay h sound =
+    decided_end bytes taken reads.0 rest exchanges [] (ends.Refused status) reads.1 within all stay (λ full behind_. inl (h.0, refused_more rest behind_ h.0 h.1, ap (λ s. ends.Refused s) h.2))
+behind_ends (ends.Torn n) bytes taken rest text exchanges left' reads within all stay h sound =
+    short_end bytes taken rest exchanges (ends.Torn n) (taken_all bytes taken left' reads h.3) all stay h.0.room h.0.partial (torn_end rest n h.1 h.2)
+behind_ends ends.ReadFault bytes taken rest text exchanges left' reads within all stay h sound = absurd (sound tt)
+behind_ends ends.WriteFault bytes taken rest text exchanges left' reads within all stay h sound = absurd (sound tt)
+behind_ends ends.Budget bytes taken rest text exchanges left' reads within all stay h sound = full_end bytes taken reads.0 rest exchanges reads.1 h.1 all stay h.0
+behind_ends ends.NoMemory bytes taken rest text exchanges left' reads within all stay h sound = absurd (sound tt)
+
+-- an end with the last exchange is that of the bytes
+last_ends : (end : End) (bytes taken rest text : List ℕ) (earlier : List Exchange) (last : Exchange) (left' : Option (List ℕ)) → Takes (Some bytes) taken left' → length taken ≤ budget
+    → Messages taken (map message_of (earlier ++ last ∷ [])) rest → StayOpen earlier → EndsWith end last text → ¬ HasFailed end → EndsAs bytes end
+last_ends ends.Closed bytes taken rest text earlier last left' reads within all stay h sound =
+    let parts = Messages-last taken (map message_of earlier) (message_of last) rest (subst (λ messages. Messages taken messages rest) (map-push earlier last) all) in
+    decided_end bytes taken reads.0 parts.0 earlier (message_of last ∷ []) ends.Closed reads.1 within parts.1 stay
+    (λ full behind_. (rest ++ behind_, stands_more parts.0 behind_ (message_of last) rest parts.2, inl (h.0, refl, refl)))
+last_ends (ends.Refused status) bytes taken rest text earlier last left' reads within all stay h sound = absurd h
+last_ends (ends.Torn n) bytes taken rest text earlier last left' reads within all stay h sound = absurd h
+last_ends ends.ReadFault bytes taken rest text earlier last left' reads within all stay h sound = absurd h
+last_ends ends.WriteFault bytes taken rest text earlier last left' reads within all stay h sound = absurd (sound tt)
+last_ends ends.Budget bytes taken rest text earlier last left' reads within all stay h sound = absurd h
+last_ends ends.NoMemory bytes taken rest text earlier last left' reads within all stay h sound = absurd (sound tt)
+
+ending_ends : (end : End) (bytes taken rest sent : List ℕ) (exchanges : List Exchange) (left' : Option (List ℕ)) → Takes (Some bytes) taken left' → length taken ≤ budget → Messages taken (map message_of exchanges) rest
+    → Ending end (length taken) exchanges rest left' sent → ¬ HasFailed end → EndsAs bytes end
+ending_ends end bytes taken rest sent exchanges left' reads within all (behind text stay is h) sound = behind_ends end bytes taken rest text exchanges left' reads within all stay h sound
+ending_ends end bytes taken rest sent exchanges left' reads within all (with_last earlier last text is stay sent_is h) sound =
+    last_ends end bytes taken rest text earlier last left' reads within (subst (λ e. Messages taken (map message_of e) rest) is all) stay h sound
 
 -- where the source tells its bytes and nothing failed, the end is that of the bytes
 pub of_bytes : (history : List Exchange → Type 0) (end : End) (left left' held held' : Option (List ℕ)) → Served history end left left' held held' → ¬ HasFailed end → IfSome left (λ bytes. EndsAs bytes end)
 of_bytes history end None left' held held' s sound = tt
-of_bytes history end (Some bytes) left' held held' s sound = served_ends history end bytes left' held held' s sound
+of_bytes history end (Some bytes) left' held held' s sound = ending_ends end bytes s.taken s.rest s.sent s.exchanges left' s.reads s.within s.messages s.ending sound
 
--- the messages go as far as they can in one way
-messages_once : (bytes : List ℕ) (first second : List Message) (rest rest' : List ℕ) (full : Bool) (end end' : End) → Messages bytes first rest → Messages bytes second rest'
-    → end_by full (front_of rest) rest ≡ Some end → end_by full (front_of rest') rest' ≡ Some end' → end ≡ end'
-messages_once bytes [] [] rest rest' full end end' h k e e' =
-    let same : rest ≡ rest' = sym h ∙ k in
-    let ends_same : Some end ≡ Some end' = sym e ∙ ap (λ r. end_by full (front_of r) r) same ∙ e' in
-    cc ends_same
-messages_once bytes [] (message ∷ second) rest rest' full end end' h k e e' =
-    let whole : end_by full (front_of rest) rest ≡ None = ap (λ front. end_by full front rest) (ap front_of (sym h) ∙ k.1) in
-    cc (whole, e)
-messages_once bytes (message ∷ first) [] rest rest' full end end' h k e e' =
-    let whole : end_by full (front_of rest') rest' ≡ None = ap (λ front. end_by full front rest') (ap front_of (sym k) ∙ h.1) in
-    cc (whole, e')
-messages_once bytes (message ∷ first) (other ∷ second) rest rest' full end end' h k e e' =
-    let same : h.0 ≡ k.0 = cc (h.1, k.1) in
-    messages_once (drop h.0 bytes) first second rest rest' full end end' h.2 (subst (λ n. Messages (drop n bytes) second rest') (sym same) k.2) e e'
+-- one thing stands at the front
+same_front : (bytes : List ℕ) (one other : Front) → fronts.IsFront body_limit bytes one → fronts.IsFront body_limit bytes other → one ≡ other
+same_front bytes one other h k = front_unique body_limit bytes one other h k
 
--- bytes give one end
-pub one_end : (bytes : List ℕ) (first second : End) → EndsAs bytes first → EndsAs bytes second → first ≡ second
-one_end bytes first second h k =
-    messages_once (take budget bytes) h.messages k.messages h.rest k.rest (nat_le budget (length bytes)) first second h.all k.all h.end_is k.end_is
+-- the bytes give one end
+ends_once : (full : Bool) (bytes : List ℕ) (first second : List Message) (one other : End) → EndsAt full bytes first one → EndsAt full bytes second other → one ≡ other
+ends_once full bytes [] [] one other (inl h) (inl k) =
+    let same : fronts.Refused h.0 ≡ fronts.Refused k.0 = same_front bytes (fronts.Refused h.0) (fronts.Refused k.0) h.1 k.1 in
+    let why : h.0 ≡ k.0 = cc same in
+    h.2 ∙ ap (λ w. ends.Refused (status_of w)) why ∙ sym k.2
+ends_once full bytes [] [] one other (inl h) (inr k) = let same : fronts.Refused h.0 ≡ fronts.Partial = same_front bytes (fronts.Refused h.0) fronts.Partial h.1 k.0 in absurd (cc same)
+ends_once full bytes [] [] one other (inr h) (inl k) = let same : fronts.Refused k.0 ≡ fronts.Partial = same_front bytes (fronts.Refused k.0) fronts.Partial k.1 h.0 in absurd (cc same)
+ends_once full bytes [] [] one other (inr h) (inr k) = h.1 ∙ sym k.1
+ends_once full bytes [] (message ∷ second) one other (inl h) k =
+    let same : fronts.Refused h.0 ≡ fronts.Message message.head message.body k.0 = same_front bytes (fronts.Refused h.0) (fronts.Message message.head message.body k.0) h.1 k.1 in absurd (cc same)
+ends_once full bytes [] (message ∷ second) one other (inr h) k =
+    let same : fronts.Partial ≡ fronts.Message message.head message.body k.0 = same_front bytes fronts.Partial (fronts.Message message.head message.body k.0) h.0 k.1 in absurd (cc same)
+ends_once full bytes (message ∷ first) [] one other h (inl k) =
+    let same : fronts.Refused k.0 ≡ fronts.Message message.head message.body h.0 = same_front bytes (fronts.Refused k.0) (fronts.Message message.head message.body h.0) k.1 h.1 in absurd (cc same)
+ends_once full bytes (message ∷ first) [] one other h (inr k) =
+    let same : fronts.Partial ≡ fronts.Message message.head message.body h.0 = same_front bytes fronts.Partial (fronts.Message message.head message.body h.0) k.0 h.1 in absurd (cc same)
+ends_once full bytes (message ∷ first) (later ∷ second) one other h k =
+    let same : fronts.Message message.head message.body h.0 ≡ fronts.Message later.head later.body k.0 = same_front bytes (fronts.Message message.head message.body h.0) (fronts.Message later.head later.body k.0) h.1 k.1 in
+    let head : message.head ≡ later.head = cc same in
+    let rest : h.0 ≡ k.0 = cc same in
+    let closing : message.head.closes ≡ later.head.closes = ap (λ x. x.closes) head in
+    step h.0 k.0 rest closing (λ x y. ends_once full h.0 first second one other x y) h.2 k.2
+  where
+    step : (rest rest' : List ℕ) → rest ≡ rest' → message.head.closes ≡ later.head.closes → (EndsAt full rest first one → EndsAt full rest second other → one ≡ other)
+        → ((message.head.closes ≡ true) × (first ≡ []) × (one ≡ ends.Closed)) ⊎ ((message.head.closes ≡ false) × EndsAt full rest first one)
+        → ((later.head.closes ≡ true) × (second ≡ []) × (other ≡ ends.Closed)) ⊎ ((later.head.closes ≡ false) × EndsAt full rest' second other) → one ≡ other
+    step rest rest' e c again (inl x) (inl y) = x.2 ∙ sym y.2
+    step rest rest' e c again (inl x) (inr y) = absurd (cc (x.0, y.0, c))
+    step rest rest' e c again (inr x) (inl y) = absurd (cc (x.0, y.0, c))
+    step rest rest' e c again (inr x) (inr y) = again x.1 (subst (λ r. EndsAt full r second other) (sym e) y.1)
+
+pub one_end : (bytes : List ℕ) (one other : End) → EndsAs bytes one → EndsAs bytes other → one ≡ other
+one_end bytes one other h k = ends_once (nat_le budget (length bytes)) (take budget bytes) h.messages k.messages one other h.ends_at k.ends_at

@@ -2,7 +2,7 @@
 use Rattle.std.proofs.Common.{◌≡◌, ℕ, ◌+◌, ◌<◌, ◌≤◌, List, ◌++◌, length, take, Option, ap, ◌∙◌, subst, arith}
 use Rattle.std.proofs.lemmas.List.{length-take}
 use Rattle.std.proofs.Math.Seq.{take-append_seam}
-use Rattle.zot_session.specs.Outside.{Reads}
+use Rattle.zot_outside.specs.Streams.{Reads}
 use Rattle.zot_session.specs.Waiting.{TakesPiece, Waiting, budget}
 
 -- the first n bytes of a buffer that were read wait behind the others

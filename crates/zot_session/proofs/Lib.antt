@@ -1,9 +1,9 @@
-mod FakeLemmas
-mod HeadLemmas
-pub mod FrontLemmas
-mod InboxLemmas
-pub mod OutsideLemmas
-mod TurnLemmas
+pub mod InboxLemmas
+pub mod MessageLemmas
 pub mod SessionLemmas
 pub mod EndLemmas
-pub mod NameLemmas
+pub mod HeadingLemmas
+pub mod ReceiveLemmas
+pub mod ChunkLemmas
+pub mod TurnLemmas
+pub mod BlankLemmas

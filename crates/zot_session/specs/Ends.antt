@@ -1,28 +1,26 @@
 -- The end that the bytes of a connection give it, where nothing fails and memory suffices.
-use Rattle.std.specs.Prelude.{◌≡◌, ℕ, nat_le, Bool, true, false, if◌then◌else◌, List, length, take, Option, Some, None}
+use Rattle.std.specs.Prelude.{◌≡◌, ℕ, nat_le, Bool, true, false, if◌then◌else◌, List, [], ◌∷◌, length, take, ◌⊎◌}
+use Rattle.zot_head.specs.Front.{Refusal}
 use Rattle.zot_session.specs.declared.end.End.{End}
 use Rattle.zot_session.specs.declared.end.End.TheVariants as ends
-use Rattle.zot_session.specs.declared.front.Front.{Front}
-use Rattle.zot_session.specs.declared.front.Front.TheVariants.{Closing, Partial, Whole}
-use Rattle.zot_session.specs.declared.front.Message.{Message}
-use Rattle.zot_session.specs.Front.{Messages, front_of}
-use Rattle.zot_session.specs.Session.{is_blank}
-use Rattle.zot_session.specs.Spelling.{status_in}
+use Rattle.zot_session.specs.Messages.{IsPartial, IsRefused, Message, Stands, is_blank, status_of}
 use Rattle.zot_session.specs.Waiting.{budget}
 
--- the end behind the last message: by whether the connection brings all that it may, by what stands at the front of the rest, and by the rest
-abbrev pub end_by : Bool → Front → List ℕ → Option End
-end_by full (Whole message n) rest = None
-end_by full (Closing reply) rest = Some (ends.Refused (status_in reply))
-end_by true Partial rest = Some ends.Budget
-end_by false Partial rest = if is_blank rest then Some ends.Closed else Some (ends.Torn (length rest))
+-- the end where less than a message is left: by whether the connection brings all that it may
+abbrev pub end_over : Bool → List ℕ → End
+end_over true rest = ends.Budget
+end_over false rest = if is_blank rest then ends.Closed else ends.Torn (length rest)
 
--- a connection that brings these bytes ends so: of as many of them as it may bring, the messages go as far as they can
+-- a connection ends so at these bytes, of which these are the messages that it still has: behind them, or with the last of them, which asks to close it
+abbrev pub EndsAt : Bool → List ℕ → List Message → End → Type 0
+EndsAt full bytes [] end = ((why : Refusal) × IsRefused bytes why × (end ≡ ends.Refused (status_of why))) ⊎ (IsPartial bytes × (end ≡ end_over full bytes))
+EndsAt full bytes (message ∷ messages) end = (rest : List ℕ) × Stands bytes message rest
+    × (((message.head.closes ≡ true) × (messages ≡ []) × (end ≡ ends.Closed)) ⊎ ((message.head.closes ≡ false) × EndsAt full rest messages end))
+
+-- a connection that brings these bytes ends so: of as many of them as it may bring
 pub record EndsAs (bytes : List ℕ) (end : End) : Type 0 where
   pub messages : List Message
-  pub rest : List ℕ
-  pub all : Messages (take budget bytes) messages rest
-  pub end_is : end_by (nat_le budget (length bytes)) (front_of rest) rest ≡ Some end
+  pub ends_at : EndsAt (nat_le budget (length bytes)) (take budget bytes) messages end
 
 -- the end has another cause than the bytes: the source, the sink or memory failed
 abbrev pub HasFailed : End → Type 0

@@ -1,12 +1,7 @@
 pub mod Ends
-pub mod Fakes
-pub mod Front
-pub mod Head
-pub mod Outside
-pub mod Seen
+pub mod Messages
+pub mod Receiving
 pub mod Sending
 pub mod Session
-pub mod Spelling
 pub mod Turn
 pub mod Waiting
-pub mod PlainName

@@ -1,8 +1,9 @@
--- What the sending of a reply says.
+-- What the sending of a text says.
 use Rattle.std.specs.Prelude.{◌≡◌, ℕ, List, Option}
+use Rattle.zot_outside.specs.Faults.{Rose}
+use Rattle.zot_outside.specs.Streams.{Appends}
 use Rattle.zot_session.specs.declared.sending.Sent.{Sent}
 use Rattle.zot_session.specs.declared.sending.Sent.TheVariants.{Fault, NoMemory, Whole}
-use Rattle.zot_session.specs.Outside.{Appends, Rose}
 use Rattle.zot_session.specs.Session.{WritesPart}
 
 -- what was written of a text

@@ -2,7 +2,8 @@
 use Rattle.std.specs.Prelude.{◌≡◌, ℕ, ◌+◌, ◌<◌, ◌≤◌, List, [], ◌++◌, length, Option}
 use Rattle.zot_session.specs.declared.inbox.Filled.{Filled}
 use Rattle.zot_session.specs.declared.inbox.Filled.TheVariants.{Fault, NoMemory, Over, Piece}
-use Rattle.zot_session.specs.Outside.{IsOver, Rose, Takes}
+use Rattle.zot_outside.specs.Faults.{Rose}
+use Rattle.zot_outside.specs.Streams.{IsOver, Takes}
 
 -- the bytes that wait, and how many bytes were taken in all
 pub record Waiting : Type 0 where
@@ -13,11 +14,12 @@ pub record Waiting : Type 0 where
 abbrev pub budget : ℕ
 budget = 1_099_511_627_776
 
--- what an inbox keeps: what it has passed over, its buffer's size, and how much it has taken
+-- what an inbox keeps: what it has passed over, its buffer's size, and how much it has taken, which is no less than what waits
 pub record IsInbox (held start room taken : ℕ) : Type 0 where
   pub passed : start ≤ held
   pub buffer : room ≡ 65_536
   pub within : taken ≤ budget
+  pub counted : held ≤ start + taken
 
 -- a piece that isn't empty was taken, and waits behind the others
 pub record TakesPiece (old new : Waiting) (before after : Option (List ℕ)) : Type 0 where

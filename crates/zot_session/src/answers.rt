@@ -1,6 +1,6 @@
 //! What answers the requests of a connection.
-ghost use Rattle.zot_session.specs.Front.{IsAsked};
-ghost use Rattle.zot_session.specs.Spelling.{HasStatus};
+ghost use Rattle.zot_model.specs.Fits.{Fits};
+ghost use Rattle.zot_model.specs.Valid.{IsValid};
 
 use std::alloc::Global;
 use zot_model::{Reply, Request};
@@ -13,9 +13,9 @@ pub trait Answers {
     // From the old state a request may be answered so, and leads to the new state.
     ghost answers: { Self → Request → Reply → Self → Type 0 };
 
-    /// The reply to a request of one of the two heads.
+    /// The reply to a valid request, which fits it.
     fn answer(&mut self, alloc: Global, request: &Request) -> Reply
-        requires { IsAsked request.now }
+        requires { IsValid request.now }
         ensures meets { answers self.old request.now result self.new }
-        ensures status { HasStatus result };
+        ensures fits { Fits request.now result };
 }

@@ -1,12 +1,12 @@
 //! The bytes that were taken from a source and belong to no message yet.
 ghost use Rattle.std.specs.Prelude.{◌≡◌, ◌≤◌, ◌↔◌, ◌+◌, ◌<◌, IfOk, IsTrue, OnErr, length, drop, [], ◌++◌, vec_len, vec_capacity};
 ghost use Rattle.zot_session.specs.Waiting.{FillFaults, Fills, budget};
-ghost use Rattle.zot_session.specs.Outside.{HasCause, Reads, Takes};
+ghost use Rattle.zot_outside.specs.Faults.{HasCause};
+ghost use Rattle.zot_outside.specs.Streams.{Reads, Takes};
 
-use crate::failed::Failed;
-use crate::source::Source;
 use std::alloc::{AllocError, Global};
 use std::marker::Model;
+use zot_outside::{Failed, Source};
 
 /// How many bytes a connection may bring.
 pub const BUDGET: u64 = 1_099_511_627_776;
@@ -53,6 +53,20 @@ impl Inbox {
         ensures { result.now ≡ self.now.bytes }
     {
         &self.bytes[self.start..]
+    }
+
+    /// How many bytes were taken in all.
+    pub fn taken(&self) -> u64
+        ensures { result ≡ self.now.taken }
+    {
+        self.taken
+    }
+
+    /// How many of them were passed over.
+    pub fn passed(&self) -> u64
+        ensures { result + length self.now.bytes ≡ self.now.taken }
+    {
+        self.taken - self.waiting().len() as u64
     }
 
     /// Passes over the first n bytes that wait.

@@ -1,15 +1,18 @@
 //! Replies written to a sink.
 ghost use Rattle.std.specs.Prelude.{◌≡◌, OnOk, OnErr};
-ghost use Rattle.zot_session.specs.Outside.{Appends, HasCause};
+ghost use Rattle.std.specs.Option.{option_copied};
+ghost use Rattle.zot_outside.specs.Faults.{HasCause};
+ghost use Rattle.zot_outside.specs.Streams.{Appends};
+ghost use Rattle.zot_session.specs.Messages.{continue_of};
 ghost use Rattle.zot_session.specs.Sending.{SendFaults, Sends};
 ghost use Rattle.zot_session.specs.Session.{WritesPart};
-ghost use Rattle.zot_session.specs.Spelling.{HasStatus, spelling};
+ghost use Rattle.zot_spell.specs.Spelling.{MayHave, reply_bytes};
 
-use crate::failed::Failed;
-use crate::sink::Sink;
-use crate::spelling::spell_reply;
 use std::alloc::Global;
-use zot_model::Reply;
+use zot_head::Head;
+use zot_model::{Reply, Request};
+use zot_outside::{Failed, Sink};
+use zot_spell::spell_reply;
 
 /// How the sending of a reply ended.
 #[derive(Clone, Copy, Debug, PartialEq, Eq)]
@@ -22,18 +25,39 @@ pub enum Sent {
     NoMemory,
 }
 
-/// Writes a reply to a request on the repository of this name; `close` says that the connection closes behind it.
-pub fn send<K: Sink>(alloc: Global, sink: &mut K, name: &[u8], reply: &Reply, close: bool) -> Sent
-    requires { HasStatus reply.now }
-    ensures sends { Sends result (K.held sink.old) (spelling name.now reply.now close) (K.held sink.new) }
+/// Writes a reply to a request, or to a message that asks for nothing. `head` says that the method is HEAD, `close` that the connection closes behind the reply.
+pub fn send<K: Sink>(
+    alloc: Global,
+    sink: &mut K,
+    request: Option<&Request>,
+    reply: &Reply,
+    head: bool,
+    close: bool,
+) -> Sent
+    requires { MayHave (option_copied request) reply.now }
+    ensures sends { Sends result (K.held sink.old) (reply_bytes (option_copied request.entry) reply.now head close) (K.held sink.new) }
     ensures faults { SendFaults result (K.faults sink.old) (K.faults sink.new) }
 {
-    match spell_reply(alloc, name, reply, close) {
+    match spell_reply(alloc, request, reply, head, close) {
         Ok(text) => match write_all(sink, text.as_slice()) {
             Ok(()) => Sent::Whole,
             Err(Failed) => Sent::Fault,
         },
         Err(_) => Sent::NoMemory,
+    }
+}
+
+/// Writes a `100 Continue` where the head asks for one. Takes no memory. After an `Err` a part of it was written.
+#[tactic(auto, unfolding(crate::specs::Messages::continue_text))]
+pub fn send_continue<K: Sink>(sink: &mut K, head: &Head) -> Result<(), Failed>
+    ensures cause { HasCause (K.faults sink.old) (K.faults sink.new) result }
+    ensures ok { OnOk result (Appends (K.held sink.old) (continue_of head.now) (K.held sink.new)) }
+    ensures err { OnErr result (WritesPart (K.held sink.old) (continue_of head.now) (K.held sink.new)) }
+{
+    if head.expects {
+        write_all(sink, b"HTTP/1.1 100 Continue\r\n\r\n")
+    } else {
+        Ok(())
     }
 }
 

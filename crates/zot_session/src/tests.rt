@@ -1,240 +1,123 @@
-//! Heads, fronts, spelling and connections with ample memory.
-ghost use Rattle.zot_session.specs.Spelling.{HasStatus};
-
-use crate::{
-    Answers, End, Front, HEAD_LIMIT, Head, MemorySink, MemorySource, Message, ReaderSource, Sink,
-    Source, WriterSink, read_front, read_head, session, spell_reply, status_of, write_all,
-};
+//! Sessions over requests that are counted.
+use crate::{Answers, End, session};
 use std::alloc::Global;
 use std::test::Fail;
-use zot_digest::{Bytes, digest_of};
+use zot_fakes::{MemorySink, MemorySource};
 use zot_model::{Call, Code, Reply, Request};
 
-/// Refuses each request: a GET with 404, and a POST with 400.
+/// Answers the base route, and refuses each other request as one that isn't built.
 #[derive(Drop)]
-struct Refuser {
+struct Counted {
     asked: u64,
 }
 
-impl Answers for Refuser {
-    ghost answers = { λ _ _ _ _. Unit {0} };
+impl Answers for Counted {
+    ghost use Rattle.std.specs.Prelude.{◌≡◌, ◌+◌, ◌-◌, ◌^◌, min};
+
+    ghost answers = { λ old _ _ new. new.asked ≡ min (old.asked + 1) (2 ^ 64 - 1) };
 
     fn answer(&mut self, _alloc: Global, request: &Request) -> Reply {
         self.asked = self.asked.saturating_add(1);
         match &request.call {
-            Call::GetBlob(_) => Reply::refused(404, Code::BlobUnknown),
-            _ => Reply::refused(400, Code::DigestInvalid),
+            Call::Base => Reply::Base,
+            _ => Reply::refused(501, Code::NotBuilt),
         }
     }
 }
 
-/// How far a head was read: 0 for none of the two forms, 1 for a GET, and 2 and its length for a POST.
-fn kind_of(head: &[u8]) -> u64 {
-    match read_head(head) {
-        Some(Head::Get { .. }) => 1,
-        Some(Head::Post { size, .. }) => size.saturating_add(2),
-        None => 0,
-    }
+/// How a session ended, how many requests were answered, and what was written.
+#[derive(Drop)]
+struct Ran {
+    end: End,
+    asked: u64,
+    output: Vec<u8>,
 }
 
-#[test]
-fn heads(rt: HostRuntime) -> Result<(), Fail> {
-    for (head, kind) in [
-        (
-            b"GET /v2/a/blobs/sha256:00 HTTP/1.1\r\nHost: r\r\n\r\n".as_slice(),
-            1,
-        ),
-        (
-            b"GET /v2/a/blobs/x HTTP/1.1\r\nHost: r\r\n\r\n".as_slice(),
-            1,
-        ),
-        (
-            b"GET /v2/a/blobs/ HTTP/1.1\r\nHost: r\r\n\r\n".as_slice(),
-            0,
-        ),
-        (
-            b"GET /v2/A/blobs/x HTTP/1.1\r\nHost: r\r\n\r\n".as_slice(),
-            0,
-        ),
-        (
-            b"GET /v2//blobs/x HTTP/1.1\r\nHost: r\r\n\r\n".as_slice(),
-            0,
-        ),
-        (
-            b"GET /v2/a/blobs/x HTTP/1.0\r\nHost: r\r\n\r\n".as_slice(),
-            0,
-        ),
-        (b"GET /v2/a/blobs/x HTTP/1.1\r\n\r\n".as_slice(), 0),
-        (
-            b"HEAD /v2/a/blobs/x HTTP/1.1\r\nHost: r\r\n\r\n".as_slice(),
-            0,
-        ),
-        (
-            b"POST /v2/a/blobs/uploads/?digest=x HTTP/1.1\r\nHost: r\r\nContent-Length: 2\r\n\r\n".as_slice(),
-            4,
-        ),
-        (
-            b"POST /v2/a/blobs/uploads/?digest=x HTTP/1.1\r\nHost: r\r\nContent-Length: 67108864\r\n\r\n".as_slice(),
-            67_108_866,
-        ),
-        (
-            b"POST /v2/a/blobs/uploads/?digest=x HTTP/1.1\r\nHost: r\r\nContent-Length: 67108865\r\n\r\n".as_slice(),
-            0,
-        ),
-        (
-            b"POST /v2/a/blobs/uploads/?digest=x HTTP/1.1\r\nHost: r\r\nContent-Length: \r\n\r\n".as_slice(),
-            0,
-        ),
-        (
-            b"POST /v2/a/blobs/uploads/?digest=x HTTP/1.1\r\nHost: r\r\n\r\n".as_slice(),
-            0,
-        ),
-        (b"".as_slice(), 0),
-    ] {
-        assert_eq!(rt; kind_of(head), kind);
+/// The call of this number fails, or none where it is 0.
+fn failing(alloc: Global, call: u64) -> Result<Vec<u64>, Fail> {
+    let mut calls = Vec::new(alloc);
+    if call > 0 {
+        calls.push(call)?;
     }
-    Ok(())
+    Ok(calls)
 }
 
-/// What stands at the front: 0 for less than a message, 1 for what closes, 2 for a request, 3 for its refusal.
-fn front_kind(alloc: Global, bytes: &[u8]) -> Result<u64, Fail> {
-    Ok(match read_front(alloc, bytes)? {
-        Front::Partial => 0,
-        Front::Closing(_) => 1,
-        Front::Whole(Message::Asks(_), _) => 2,
-        Front::Whole(Message::Refuses(_), _) => 3,
+/// Runs a session over an input in pieces, where one read and one write fail.
+fn run(alloc: Global, input: &[u8], piece: usize, read: u64, write: u64) -> Result<Ran, Fail> {
+    let piece = piece.max(1);
+    let bytes = Vec::from_slice(alloc, input)?;
+    let mut source = MemorySource::new(bytes, piece, failing(alloc, read)?);
+    let mut sink = MemorySink::in_pieces(alloc, piece, failing(alloc, write)?);
+    let mut answers = Counted { asked: 0 };
+    let end = session(alloc, &mut answers, &mut source, &mut sink);
+    Ok(Ran {
+        end,
+        asked: answers.asked,
+        output: Vec::from_slice(alloc, sink.written())?,
     })
 }
 
 #[test]
-fn fronts(rt: HostRuntime) -> Result<(), Fail> {
-    let alloc = rt.alloc();
-    let mut long = vec![in alloc; b'a'; HEAD_LIMIT]?;
-    assert_eq!(rt; front_kind(alloc, long.as_slice())?, 1);
-    long.truncate(HEAD_LIMIT - 1);
-    assert_eq!(rt; front_kind(alloc, long.as_slice())?, 0);
-    for (bytes, kind) in [
-        (b"".as_slice(), 0),
-        (b"\r\n\r\n".as_slice(), 1),
+fn ends_in_pieces(rt: HostRuntime) -> Result<(), Fail> {
+    for (input, end, asked, front) in [
         (
-            b"GET /v2/a/blobs/x HTTP/1.1\r\nHost: r\r\n\r\n".as_slice(),
-            3,
-        ),
-        (
-            b"GET /v2/a/blobs/sha256:44136fa355b3678a1146ad16f7e8649e94fb4fc21fe77e8310c060f61caaff8a HTTP/1.1\r\nHost: r\r\n\r\nGET".as_slice(),
-            2,
-        ),
-        (
-            b"POST /v2/a/blobs/uploads/?digest=x HTTP/1.1\r\nHost: r\r\nContent-Length: 2\r\n\r\n{".as_slice(),
-            0,
-        ),
-        (
-            b"POST /v2/a/blobs/uploads/?digest=x HTTP/1.1\r\nHost: r\r\nContent-Length: 2\r\n\r\n{}".as_slice(),
-            3,
-        ),
-    ] {
-        assert_eq!(rt; front_kind(alloc, bytes)?, kind);
-    }
-    Ok(())
-}
-
-/// Whether a reply to a request on the repository `a` is spelled so.
-fn is_spelled(alloc: Global, reply: &Reply, close: bool, text: &[u8]) -> Result<bool, Fail>
-    requires { HasStatus reply.now }
-{
-    let spelled = spell_reply(alloc, b"a", reply, close)?;
-    Ok(spelled.as_slice() == text && status_of(reply) >= 200)
-}
-
-#[test]
-fn spellings(rt: HostRuntime) -> Result<(), Fail> {
-    let alloc = rt.alloc();
-    let digest = digest_of(b"{}");
-    let bytes = Bytes::new(Vec::from_slice(alloc, b"{}")?);
-    let blob = Reply::Blob { digest, bytes };
-    assert!(rt;
-        is_spelled(
-            alloc,
-            &blob,
-            false,
-            b"HTTP/1.1 200 OK\r\nDocker-Content-Digest: sha256:44136fa355b3678a1146ad16f7e8649e94fb4fc21fe77e8310c060f61caaff8a\r\nContent-Type: application/octet-stream\r\nContent-Length: 2\r\n\r\n{}"
-        )?
-    );
-    let made = Reply::BlobMade { digest };
-    assert!(rt;
-        is_spelled(
-            alloc,
-            &made,
-            false,
-            b"HTTP/1.1 201 Created\r\nLocation: /v2/a/blobs/sha256:44136fa355b3678a1146ad16f7e8649e94fb4fc21fe77e8310c060f61caaff8a\r\nDocker-Content-Digest: sha256:44136fa355b3678a1146ad16f7e8649e94fb4fc21fe77e8310c060f61caaff8a\r\nContent-Length: 0\r\n\r\n"
-        )?
-    );
-    let no_memory = Reply::refused(503, Code::NoMemory);
-    assert!(rt;
-        is_spelled(
-            alloc,
-            &no_memory,
-            false,
-            b"HTTP/1.1 503 Service Unavailable\r\nContent-Type: application/json\r\nContent-Length: 55\r\n\r\n{\"errors\":[{\"code\":\"NO_MEMORY\",\"message\":\"no memory\"}]}"
-        )?
-    );
-    let not_built = Reply::refused(501, Code::NotBuilt);
-    assert!(rt;
-        is_spelled(
-            alloc,
-            &not_built,
-            true,
-            b"HTTP/1.1 501 Not Implemented\r\nContent-Type: application/json\r\nContent-Length: 55\r\nConnection: close\r\n\r\n{\"errors\":[{\"code\":\"NOT_BUILT\",\"message\":\"not built\"}]}"
-        )?
-    );
-    Ok(())
-}
-
-#[test]
-fn connections(rt: HostRuntime) -> Result<(), Fail> {
-    let alloc = rt.alloc();
-    for (input, end, asked) in [
-        (b"".as_slice(), End::Closed, 0),
-        (
-            b"GET /v2/a/blobs/x HTTP/1.1\r\nHost: r\r\n\r\n\n".as_slice(),
+            b"GET /v2/ HTTP/1.0\r\n\r\nGET /v2/ HTTP/1.1\r\n\r\n".as_slice(),
             End::Closed,
+            1,
+            b"HTTP/1.1 200 OK\r\n".as_slice(),
+        ),
+        (
+            b"POST /v2/A/blobs/uploads/ HTTP/1.1\r\n\r\nGET /v2/a/tags/list HTTP/1.1\r\n\r\nGET /v2/ HTTP/1.1\r\n\r\n\r\n".as_slice(),
+            End::Closed,
+            2,
+            b"HTTP/1.1 400 Bad Request\r\n".as_slice(),
+        ),
+        (
+            b"POST /v2/a/blobs/uploads/ HTTP/1.1\r\nExpect: 100-continue\r\nContent-Length: 67108865\r\n\r\n".as_slice(),
+            End::Refused(413),
             0,
+            b"HTTP/1.1 413 Payload Too Large\r\n".as_slice(),
         ),
         (
-            b"GET /v2/a/blobs/sha256:44136fa355b3678a1146ad16f7e8649e94fb4fc21fe77e8310c060f61caaff8a HTTP/1.1\r\nHost: r\r\n\r\nGE".as_slice(),
-            End::Torn(2),
-            1,
+            b"POST /v2/a/blobs/uploads/ HTTP/1.1\r\nExpect: 100-continue\r\nTransfer-Encoding: chunked\r\n\r\n4000001\r\n".as_slice(),
+            End::Refused(413),
+            0,
+            b"HTTP/1.1 100 Continue\r\n\r\nHTTP/1.1 413 Payload Too Large\r\n".as_slice(),
         ),
         (
-            b"GET /v2/a/blobs/sha256:44136fa355b3678a1146ad16f7e8649e94fb4fc21fe77e8310c060f61caaff8a HTTP/1.1\r\nHost: r\r\n\r\n\r\n\r\n".as_slice(),
-            End::Refused(501),
+            b"GET /v2/ HTTP/1.1\r\n\r\nPOST /v2/a/blobs/uploads/ HTTP/1.1\r\nTransfer-Encoding: chunked\r\n\r\ng\r\n".as_slice(),
+            End::Refused(400),
             1,
+            b"HTTP/1.1 200 OK\r\n".as_slice(),
+        ),
+        (
+            b"PATCH /v2/a/blobs/uploads/0000000000000001 HTTP/1.1\r\nContent-Length: 3\r\n\r\nab".as_slice(),
+            End::Torn(76),
+            0,
+            b"".as_slice(),
         ),
     ] {
-        let mut answers = Refuser { asked: 0 };
-        let mut source = MemorySource::new(Vec::from_slice(alloc, input)?, 5, Vec::new(alloc));
-        let mut sink = MemorySink::new(alloc, 9, Vec::new(alloc));
-        assert!(rt; session(alloc, &mut answers, &mut source, &mut sink) == end);
-        assert_eq!(rt; answers.asked, asked);
+        for piece in [1, 5, 4_096] {
+            let ran = run(rt.alloc(), input, piece, 0, 0)?;
+            assert!(rt; ran.end == end);
+            assert_eq!(rt; ran.asked, asked);
+            assert!(rt; ran.output.starts_with(front));
+        }
     }
     Ok(())
 }
 
 #[test]
-fn readers_and_writers(rt: HostRuntime) -> Result<(), Fail> {
-    let alloc = rt.alloc();
-    let mut source = ReaderSource::new(b"abc".as_slice());
-    let mut buf = [0; 2];
-    assert!(rt; source.read(&mut buf) == Ok(2));
-    assert!(rt; source.read(&mut buf) == Ok(1));
-    assert!(rt; source.read(&mut buf) == Ok(0));
-    let mut sink = WriterSink::new(Vec::new(alloc));
-    assert!(rt; write_all(&mut sink, b"abc").is_ok());
-    assert!(rt; sink.write(b"") == Ok(0));
-    let mut failing = Vec::new(alloc);
-    failing.push(2)?;
-    let mut sink = MemorySink::new(alloc, 2, failing);
-    assert!(rt; write_all(&mut sink, b"abc").is_err());
-    assert!(rt; sink.written() == b"ab".as_slice());
+fn faults(rt: HostRuntime) -> Result<(), Fail> {
+    let input = b"GET /v2/ HTTP/1.1\r\n\r\n".as_slice();
+    let whole = run(rt.alloc(), input, 16, 0, 0)?;
+    assert!(rt; whole.end == End::Closed);
+    for call in [1, 2, 3] {
+        let ran = run(rt.alloc(), input, 16, call, 0)?;
+        assert!(rt; ran.end == End::ReadFault);
+        let ran = run(rt.alloc(), input, 16, 0, call)?;
+        assert!(rt; ran.end == End::WriteFault);
+        assert!(rt; whole.output.starts_with(ran.output.as_slice()));
+    }
     Ok(())
 }

@@ -1,8 +1,8 @@
 -- Texts that JSON writes as they stand, digests among them.
-use Rattle.std.proofs.Common.{◌≡◌, ◌≢◌, ℕ, zero, suc, ◌+◌, ◌*◌, ◌/◌, ◌%◌, ◌<◌, ◌≤◌, ◌==◌, Bool, true, false, not, ◌&&◌, nat_le, List, [], ◌∷◌, ◌++◌, length, refl, arith, slice_index}
+use Rattle.std.proofs.Common.{◌≡◌, ◌≢◌, ℕ, suc, ◌/◌, ◌%◌, ◌<◌, ◌≤◌, ◌==◌, Bool, true, not, ◌&&◌, nat_le, List, [], ◌∷◌, ◌++◌, refl, arith, slice_index}
 use Rattle.std.specs.Prelude.{⊤}
 use Rattle.std.proofs.lemmas.Bool.Decides.{nat_tests}
-use Rattle.hex.specs.Hex.{IsBytes, encode_lower, encode_with, lower_digits}
+use Rattle.hex.specs.Hex.{encode_with, lower_digits}
 use Rattle.json.specs.Print.{escape, escape_byte}
 use Rattle.zot_digest.proofs.DigestLemmas.{passes-at}
 use Rattle.zot_digest.specs.Digest.{IsDigest, digest_text}
@@ -29,12 +29,6 @@ plain_append [] text h k = k
 plain_append (c ∷ front) text h k = (h.0, plain_append front text h.1 k)
 
 -- ---- digests
-
-abbrev is_digit_byte : ℕ → Bool
-is_digit_byte k = nat_le 48 (slice_index lower_digits k) && nat_le (slice_index lower_digits k) 57
-
-abbrev is_letter_byte : ℕ → Bool
-is_letter_byte k = nat_le 97 (slice_index lower_digits k) && nat_le (slice_index lower_digits k) 102
 
 abbrev is_plain_digit : ℕ → Bool
 is_plain_digit k = nat_le 48 (slice_index lower_digits k) && not (slice_index lower_digits k == 92)

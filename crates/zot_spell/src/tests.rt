@@ -1,7 +1,7 @@
 //! Each kind of reply and of request, against the lines that the specifications give them.
 ghost use Rattle.zot_model.specs.Fits.{Declines, FitsCall};
 
-use crate::{spell_reply, spell_request};
+use crate::{alike_replies, spell_reply, spell_request};
 use std::alloc::{AllocError, Global};
 use std::test::Fail;
 use zot_digest::{Bytes, Digest, Words, digest_of};
@@ -178,6 +178,8 @@ fn blobs(rt: HostRuntime) -> Result<(), Fail> {
 #[test]
 fn uploads(rt: HostRuntime) -> Result<(), Fail> {
     let alloc = rt.alloc();
+    // The first and the last one have the same range, as this law says of uploads of 0 and of 1 byte.
+    alike_replies();
     // Behind the replies above.
     let mut lines = REPLIES.lines().skip(5);
     let id = UploadId::new(1);

@@ -2,8 +2,8 @@
 use Rattle.std.proofs.Common.{◌≡◌, ℕ, List, ◌++◌, Option, sym, ap, ◌∙◌}
 use Rattle.std.specs.Prelude.{OnErr, OnOk, Result, Ok, Err}
 use Rattle.std.proofs.lemmas.List.{append_assoc}
-use Rattle.zot_session.proofs.OutsideLemmas.{Appends-append}
-use Rattle.zot_session.specs.Outside.{Appends}
+use Rattle.zot_outside.proofs.StreamLemmas.{Appends-append}
+use Rattle.zot_outside.specs.Streams.{Appends}
 use Rattle.zot_session.specs.Session.{WritesPart}
 
 -- a part of the first text is a part of both

@@ -6,7 +6,8 @@ use Rattle.zot_model.specs.State.{RowState, empty_row}
 use Rattle.zot_session.specs.declared.end.End.{End}
 use Rattle.zot_session.specs.declared.end.End.TheVariants as ends
 use Rattle.zot_session.specs.Ends.{EndsAs, HasFailed}
-use Rattle.zot_session.specs.Outside.{Appends, Rose}
+use Rattle.zot_outside.specs.Faults.{Rose}
+use Rattle.zot_outside.specs.Streams.{Appends}
 use Rattle.zot_session.specs.Session.{Served, WritesPart}
 use Rattle.zotd.specs.Entries.{entries_of}
 

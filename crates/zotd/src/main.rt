@@ -13,7 +13,7 @@ use crate::arguments::{arguments, behind_name};
 use crate::running::{run_unread, run_waiting};
 use std::io::ErrorKind;
 use std::process::ExitCode;
-use zot_session::{ReaderSource, WriterSink};
+use zot_outside::{ReaderSource, WriterSink};
 
 fn main(rt: HostRuntime) -> ExitCode {
     let mut input = ReaderSource::new(rt.stdin());

@@ -1,11 +1,13 @@
 //! The program's lines on notes.
 ghost use Rattle.std.specs.Prelude.{◌≡◌, [], ◌∷◌, ◌++◌, OnOk, OnErr, decimal};
-ghost use Rattle.zot_session.specs.Outside.{Appends, HasCause};
+ghost use Rattle.zot_outside.specs.Faults.{HasCause};
+ghost use Rattle.zot_outside.specs.Streams.{Appends};
 ghost use Rattle.zot_session.specs.Session.{WritesPart};
 ghost use Rattle.zotd.specs.Program.{Notes, line, line_end, line_of};
 
 use itoa::Buffer;
-use zot_session::{End, Failed, Sink, write_all};
+use zot_outside::{Failed, Sink};
+use zot_session::{End, write_all};
 
 /// Notes how a connection ended that didn't end between messages. Takes no memory; a failing write is ignored.
 #[tactic(auto, unfolding(crate::specs::Program::line_of))]

@@ -1,6 +1,6 @@
 //! What the program does for its words.
 ghost use Rattle.std.specs.Prelude.{◌≡◌, ◌≢◌, ◌↔◌, true, false, map, string_bytes};
-ghost use Rattle.zot_session.specs.Outside.{Rose};
+ghost use Rattle.zot_outside.specs.Faults.{Rose};
 ghost use Rattle.zot_session.specs.declared.end.End.{End as AnEnd};
 ghost use Rattle.zot_session.specs.declared.end.End.TheVariants as ends;
 ghost use Rattle.zotd.specs.Program.{Notes, Pipes, line_of, pipe_words, status_of, words_line, words_status};
@@ -9,8 +9,9 @@ use crate::notes::{note, note_end};
 use crate::status::Status;
 use crate::table::serve_table;
 use std::alloc::Global;
+use zot_outside::{Sink, Source};
 use zot_repo::RepoShard;
-use zot_session::{End, Sink, Source};
+use zot_session::End;
 
 /// Runs the command of these words: `pipe` serves one connection from the input to the output over an empty table in memory. Other words are refused with the status 2, and nothing is read or written to the output for them.
 #[tactic(auto, unfolding(crate::specs::Program::words_line))]

@@ -2,15 +2,16 @@
 ghost use Rattle.std.specs.Prelude.{◌≡◌, ◌≢◌, IfSome};
 ghost use Rattle.zot_model.specs.History.{Run};
 ghost use Rattle.zot_session.specs.Ends.{EndsAs, HasFailed};
-ghost use Rattle.zot_session.specs.Outside.{Rose};
+ghost use Rattle.zot_outside.specs.Faults.{Rose};
 ghost use Rattle.zot_session.specs.Session.{Served};
 ghost use Rattle.zot_session.specs.declared.end.End.TheVariants as ends;
 ghost use Rattle.zotd.specs.Entries.{entries_of};
 
 use std::alloc::Global;
 use zot_model::{Reply, Request};
+use zot_outside::{Sink, Source};
 use zot_repo::RepoShard;
-use zot_session::{Answers, End, Sink, Source, session};
+use zot_session::{Answers, End, session};
 
 // What answers the requests of a connection from a table that was lent.
 #[derive(Drop)]
@@ -20,13 +21,15 @@ struct TableAnswers<'a> {
 
 impl Answers for TableAnswers<'_> {
     ghost use Rattle.std.specs.Prelude.{◌≡◌};
-    ghost use Rattle.zot_model.specs.History.{Step};
-    ghost use Rattle.zotd.specs.Entries.{entry_of};
+    ghost use Rattle.zotd.specs.Entries.{AnswersOver};
 
-    ghost answers = { λ old request reply new. Step old.table.now (entry_of new.table.now.faults request reply) new.table.now × (new.table.ghost_name ≡ old.table.ghost_name) };
+    ghost answers = { λ old request reply new. AnswersOver request.name old.table.now request reply new.table.now × (new.table.ghost_name ≡ old.table.ghost_name) };
 
     fn answer(&mut self, alloc: Global, request: &Request) -> Reply {
-        self.table.ask(alloc, request)
+        match request.name {
+            Some(_) => self.table.ask(alloc, request),
+            None => Reply::Base,
+        }
     }
 }
 

@@ -5,8 +5,9 @@ use crate::status::Status;
 use crate::table::serve_table;
 use std::alloc::Global;
 use std::test::Fail;
+use zot_fakes::{MemorySink, MemorySource};
 use zot_repo::RepoShard;
-use zot_session::{End, MemorySink, MemorySource};
+use zot_session::End;
 
 /// A POST of two bytes, and a GET of them.
 const FIRST: &[u8] =
@@ -16,9 +17,25 @@ const FIRST: &[u8] =
 const FIRST_REPLIES: &[u8] =
     b"HTTP/1.1 201 Created\r\nLocation: /v2/a/blobs/sha256:44136fa355b3678a1146ad16f7e8649e94fb4fc21fe77e8310c060f61caaff8a\r\nDocker-Content-Digest: sha256:44136fa355b3678a1146ad16f7e8649e94fb4fc21fe77e8310c060f61caaff8a\r\nContent-Length: 0\r\n\r\nHTTP/1.1 200 OK\r\nDocker-Content-Digest: sha256:44136fa355b3678a1146ad16f7e8649e94fb4fc21fe77e8310c060f61caaff8a\r\nContent-Type: application/octet-stream\r\nContent-Length: 2\r\n\r\n{}";
 
-/// What a head of no known form is answered.
-const NOT_BUILT: &[u8] =
-    b"HTTP/1.1 501 Not Implemented\r\nContent-Type: application/json\r\nContent-Length: 55\r\nConnection: close\r\n\r\n{\"errors\":[{\"code\":\"NOT_BUILT\",\"message\":\"not built\"}]}";
+/// What a message with no head is answered.
+const HEAD_INVALID: &[u8] =
+    b"HTTP/1.1 400 Bad Request\r\nContent-Type: application/json\r\nContent-Length: 61\r\nConnection: close\r\n\r\n{\"errors\":[{\"code\":\"HEAD_INVALID\",\"message\":\"head invalid\"}]}";
+
+/// What a message whose head is too long is answered.
+const HEAD_TOO_LONG: &[u8] =
+    b"HTTP/1.1 431 Request Header Fields Too Large\r\nContent-Type: application/json\r\nContent-Length: 63\r\nConnection: close\r\n\r\n{\"errors\":[{\"code\":\"HEAD_TOO_LONG\",\"message\":\"head too long\"}]}";
+
+/// What the base route is answered.
+const BASE: &[u8] =
+    b"HTTP/1.1 200 OK\r\nDocker-Distribution-Api-Version: registry/2.0\r\nContent-Type: application/json\r\nContent-Length: 2\r\n\r\n{}";
+
+/// Several requests behind one another: both methods of the base route, a blob in chunks whose sender waits, its HEAD, that of another one, a list that isn't built, a method that a path doesn't have, and one that closes the connection, with other bytes behind it.
+const WIRE: &[u8] =
+    b"\r\nGET /v2/ HTTP/1.1\r\n\r\nHEAD /v2 HTTP/1.1\r\nHost: r\r\n\r\nPOST /v2/a/b/blobs/uploads/?digest=sha256:44136fa355b3678a1146ad16f7e8649e94fb4fc21fe77e8310c060f61caaff8a HTTP/1.1\r\nExpect: 100-continue\r\nTransfer-Encoding: chunked\r\n\r\n1;x\r\n{\r\n01\r\n}\r\n0\r\nTrailer: t\r\n\r\nHEAD /v2/a/b/blobs/sha256:44136fa355b3678a1146ad16f7e8649e94fb4fc21fe77e8310c060f61caaff8a HTTP/1.1\r\n\r\nHEAD /v2/a/blobs/sha256:44136fa355b3678a1146ad16f7e8649e94fb4fc21fe77e8310c060f61caaff8a HTTP/1.1\r\n\r\nGET /v2/a/tags/list HTTP/1.1\r\n\r\nPUT /v2/a/blobs/x HTTP/1.1\r\nContent-Length: 1\r\n\r\nyGET /v2/ HTTP/1.1\r\nConnection: x, close\r\n\r\nGET /v2/ HTTP/1.1\r\n\r\n";
+
+/// The replies to them.
+const WIRE_REPLIES: &[u8] =
+    b"HTTP/1.1 200 OK\r\nDocker-Distribution-Api-Version: registry/2.0\r\nContent-Type: application/json\r\nContent-Length: 2\r\n\r\n{}HTTP/1.1 200 OK\r\nDocker-Distribution-Api-Version: registry/2.0\r\nContent-Type: application/json\r\nContent-Length: 2\r\n\r\nHTTP/1.1 100 Continue\r\n\r\nHTTP/1.1 201 Created\r\nLocation: /v2/a/b/blobs/sha256:44136fa355b3678a1146ad16f7e8649e94fb4fc21fe77e8310c060f61caaff8a\r\nDocker-Content-Digest: sha256:44136fa355b3678a1146ad16f7e8649e94fb4fc21fe77e8310c060f61caaff8a\r\nContent-Length: 0\r\n\r\nHTTP/1.1 200 OK\r\nDocker-Content-Digest: sha256:44136fa355b3678a1146ad16f7e8649e94fb4fc21fe77e8310c060f61caaff8a\r\nContent-Type: application/octet-stream\r\nContent-Length: 2\r\n\r\nHTTP/1.1 404 Not Found\r\nContent-Type: application/json\r\nContent-Length: 61\r\n\r\nHTTP/1.1 501 Not Implemented\r\nContent-Type: application/json\r\nContent-Length: 55\r\n\r\n{\"errors\":[{\"code\":\"NOT_BUILT\",\"message\":\"not built\"}]}HTTP/1.1 405 Method Not Allowed\r\nAllow: GET, HEAD, DELETE\r\nContent-Type: application/json\r\nContent-Length: 59\r\n\r\n{\"errors\":[{\"code\":\"UNSUPPORTED\",\"message\":\"unsupported\"}]}HTTP/1.1 200 OK\r\nDocker-Distribution-Api-Version: registry/2.0\r\nContent-Type: application/json\r\nContent-Length: 2\r\nConnection: close\r\n\r\n{}";
 
 /// What stands where a run ended.
 #[derive(Drop)]
@@ -56,8 +73,8 @@ fn run(
         piece,
         failing(alloc, read)?,
     );
-    let mut sink = MemorySink::new(alloc, piece, failing(alloc, write)?);
-    let mut notes = MemorySink::new(alloc, 3, Vec::new(alloc));
+    let mut sink = MemorySink::in_pieces(alloc, piece, failing(alloc, write)?);
+    let mut notes = MemorySink::in_pieces(alloc, 3, Vec::new(alloc));
     let status = run_waiting(alloc, texts.as_slice(), &mut source, &mut sink, &mut notes);
     Ok(Ran {
         code: status.code,
@@ -82,19 +99,7 @@ fn ends_of_inputs(rt: HostRuntime) -> Result<(), Fail> {
     for (input, output, code, notes) in [
         (b"".as_slice(), b"".as_slice(), 0, b"".as_slice()),
         (b"\r\n".as_slice(), b"".as_slice(), 0, b"".as_slice()),
-        (b"\n\n\n".as_slice(), b"".as_slice(), 0, b"".as_slice()),
-        (
-            b"\r\n\r\n".as_slice(),
-            NOT_BUILT,
-            3,
-            b"zotd: refused 501\n".as_slice(),
-        ),
-        (
-            b"PUT /v2/a/blobs/x HTTP/1.1\r\nHost: r\r\n\r\n".as_slice(),
-            NOT_BUILT,
-            3,
-            b"zotd: refused 501\n".as_slice(),
-        ),
+        (b"\n\r\n\n".as_slice(), b"".as_slice(), 0, b"".as_slice()),
         (
             b"\r".as_slice(),
             b"".as_slice(),
@@ -107,11 +112,55 @@ fn ends_of_inputs(rt: HostRuntime) -> Result<(), Fail> {
             4,
             b"zotd: torn 14\n".as_slice(),
         ),
+        (
+            b"PUT / HTTP/1.1\r\nContent-Length: 2\r\nTransfer-Encoding: chunked\r\n\r\n".as_slice(),
+            HEAD_INVALID,
+            3,
+            b"zotd: refused 400\n".as_slice(),
+        ),
+        (
+            b"PUT / HTTP/1.1\r\nExpect: 100-continue\r\nContent-Length: 2\r\n\r\n{".as_slice(),
+            b"HTTP/1.1 100 Continue\r\n\r\n".as_slice(),
+            4,
+            b"zotd: torn 60\n".as_slice(),
+        ),
     ] {
         let ran = run(rt.alloc(), &["pipe"], input, 3, 0, 0)?;
         assert_eq!(rt; ran.code, code);
         assert!(rt; ran.output.as_slice() == output);
         assert!(rt; ran.notes.as_slice() == notes);
+    }
+    Ok(())
+}
+
+#[test]
+fn whole_wire_in_pieces(rt: HostRuntime) -> Result<(), Fail> {
+    for piece in [1, 5, 4_096] {
+        let ran = run(rt.alloc(), &["pipe"], WIRE, piece, 0, 0)?;
+        assert_eq!(rt; ran.code, 0);
+        assert!(rt; ran.output.as_slice() == WIRE_REPLIES);
+        assert!(rt; ran.notes.is_empty());
+    }
+    Ok(())
+}
+
+/// A GET of the base route whose head has so many bytes, at least 25.
+fn long_head(alloc: Global, size: usize) -> Result<Vec<u8>, Fail> {
+    let mut input = Vec::from_slice(alloc, b"GET /v2/ HTTP/1.1\r\nX:".as_slice())?;
+    for _ in 25..size {
+        input.push(b'x')?;
+    }
+    input.extend_from_slice(b"\r\n\r\n".as_slice())?;
+    Ok(input)
+}
+
+#[test]
+fn heads_at_their_limit(rt: HostRuntime) -> Result<(), Fail> {
+    for (size, code, output) in [(16_384, 0, BASE), (16_385, 3, HEAD_TOO_LONG)] {
+        let input = long_head(rt.alloc(), size)?;
+        let ran = run(rt.alloc(), &["pipe"], input.as_slice(), 4_096, 0, 0)?;
+        assert_eq!(rt; ran.code, code);
+        assert!(rt; ran.output.as_slice() == output);
     }
     Ok(())
 }
@@ -205,7 +254,7 @@ fn words_that_cannot_be_read(rt: HostRuntime) -> Result<(), Fail> {
         (true, 8, b"zotd: no memory\n".as_slice()),
         (false, 2, b"zotd: words\n".as_slice()),
     ] {
-        let mut notes = MemorySink::new(rt.alloc(), 5, Vec::new(rt.alloc()));
+        let mut notes = MemorySink::in_pieces(rt.alloc(), 5, Vec::new(rt.alloc()));
         assert!(rt; run_unread(no_memory, &mut notes) == Status { code });
         assert!(rt; notes.written() == line);
     }
@@ -227,7 +276,7 @@ fn statuses_and_lines(rt: HostRuntime) -> Result<(), Fail> {
         (End::Budget, 7, b"zotd: budget\n".as_slice()),
         (End::NoMemory, 8, b"zotd: no memory\n".as_slice()),
     ] {
-        let mut notes = MemorySink::new(rt.alloc(), 4, Vec::new(rt.alloc()));
+        let mut notes = MemorySink::in_pieces(rt.alloc(), 4, Vec::new(rt.alloc()));
         note_end(&mut notes, end);
         assert_eq!(rt; status_of(end), code);
         assert!(rt; notes.written() == line);
@@ -239,8 +288,8 @@ fn statuses_and_lines(rt: HostRuntime) -> Result<(), Fail> {
 fn failing_notes_keep_the_status(rt: HostRuntime) -> Result<(), Fail> {
     let alloc = rt.alloc();
     let mut source = MemorySource::new(Vec::new(alloc), 4, Vec::new(alloc));
-    let mut sink = MemorySink::new(alloc, 4, Vec::new(alloc));
-    let mut notes = MemorySink::new(alloc, 4, failing(alloc, 2)?);
+    let mut sink = MemorySink::in_pieces(alloc, 4, Vec::new(alloc));
+    let mut notes = MemorySink::in_pieces(alloc, 4, failing(alloc, 2)?);
     let status = run_waiting(alloc, &[], &mut source, &mut sink, &mut notes);
     assert!(rt; status == Status { code: 2 });
     assert!(rt; notes.written() == b"zotd".as_slice());
@@ -279,7 +328,7 @@ fn one_table_over_connections(rt: HostRuntime) -> Result<(), Fail> {
         ),
     ] {
         let mut source = MemorySource::new(Vec::from_slice(alloc, input)?, 32, Vec::new(alloc));
-        let mut sink = MemorySink::new(alloc, 32, Vec::new(alloc));
+        let mut sink = MemorySink::in_pieces(alloc, 32, Vec::new(alloc));
         assert!(rt; serve_table(alloc, &mut table, &mut source, &mut sink) == End::Closed);
         assert!(rt; sink.written().starts_with(first_line));
     }

@@ -1,5 +1,5 @@
 use Rattle.std.proofs.Common.{◌++◌, take, ◌∙◌}
-use Rattle.zot_session.proofs.OutsideLemmas.{Appends-append, written_more}
+use Rattle.zot_outside.proofs.StreamLemmas.{Appends-append, written_more}
 use Rattle.zot_session.proofs.sending.write_all.Goals as goal
 
 pub loop-rest-preserved : goal.loop-rest-preserved

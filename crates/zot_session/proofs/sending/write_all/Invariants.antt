@@ -1,5 +1,5 @@
 use Rattle.std.proofs.Common.{◌≡◌, ℕ, List, ◌++◌, length}
-use Rattle.zot_session.specs.Outside.{Appends}
+use Rattle.zot_outside.specs.Streams.{Appends}
 use Rattle.zot_session.proofs.sending.write_all.Given as goal
 
 -- the part so far was written, the rest wasn't, and no call failed

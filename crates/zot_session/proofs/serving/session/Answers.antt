@@ -1,12 +1,10 @@
-use Rattle.std.proofs.Common.{refl, ◌∙◌}
+use Rattle.std.proofs.Common.{◌∙◌}
 use Rattle.zot_session.proofs.EndLemmas.{of_bytes}
-use Rattle.zot_session.proofs.SessionLemmas.{smaller, so_far_ends, so_far_more, so_far_start}
-use Rattle.zot_session.specs.Turn.{early}
+use Rattle.zot_session.proofs.SessionLemmas.{never_began, smaller, so_far_ends, so_far_more}
 use Rattle.zot_session.proofs.serving.session.Goals as goal
 
 pub returns-in_default-clause-served : goal.returns-in_default-clause-served
-returns-in_default-clause-served g c =
-    so_far_ends g.A.Answers.answers _ _ _ _ _ _ _ _ _ _ _ (so_far_start g.A.Answers.answers _ _ _) (early refl refl refl refl)
+returns-in_default-clause-served g c = never_began g.A.Answers.answers _ _ _
 
 pub returns-in-Some-clause-served : goal.returns-in-Some-clause-served
 returns-in-Some-clause-served g c =

@@ -1,33 +1,56 @@
-use Rattle.std.proofs.Common.{refl}
-use Rattle.zot_session.proofs.FrontLemmas.{front_of_size}
-use Rattle.zot_session.proofs.TurnLemmas.{answers_front, front_read}
-use Rattle.zot_session.specs.Turn.{refusing, replying, reply}
+use Rattle.std.proofs.Common.{◌≡◌, length, refl, subst}
+use Rattle.zot_session.specs.Receiving.{Receives}
+use Rattle.zot_session.specs.Turn.{Replies}
+use Rattle.zot_session.proofs.HeadingLemmas.{body_within}
+use Rattle.zot_session.proofs.TurnLemmas.{goes_on, stop_closing, stop_refusing, stop_unasked, stop_unsent, stop_writing}
 use Rattle.zot_session.proofs.serving.turn.Goals as goal
 
-pub pass-requires : goal.pass-requires
-pass-requires g c =
-    let h = front_read c.args.inbox.now.bytes c.waiting.result.now c.in-Ok-Whole.field-0 _ c.waiting.ensures c.in-Ok-Whole.ensures.front c.in-Ok-Whole.field-0-is in
-    (front_of_size c.args.inbox.now.bytes c.in-Ok-Whole.message c.in-Ok-Whole.n h).1
+pub returns-in-Ok-Refused-clause-ends : goal.returns-in-Ok-Refused-clause-ends
+returns-in-Ok-Refused-clause-ends g c =
+    let r = subst (λ x. Receives x c.args.inbox.now c.receive.new.inbox (g.C.Source.left c.args.source.now) (g.C.Source.left c.receive.new.source) (g.K.Sink.held c.args.sink.now) (g.K.Sink.held c.receive.new.sink))
+    c.in-Ok-Refused.field-0-is c.in-Ok-Refused.ensures.receives in
+    stop_refusing g.A.Answers.answers c.refuse.result c.in-Ok-Refused.reply _ _ c.args.inbox.now c.receive.new.inbox _ _ _ _ _ refl r c.refuse.ensures.ends
 
-pub returns-in-Ok-Closing-clause-ends : goal.returns-in-Ok-Closing-clause-ends
-returns-in-Ok-Closing-clause-ends g c =
-    refusing c.in-Ok-Closing.reply (front_read c.args.inbox.now.bytes c.waiting.result.now c.in-Ok-Closing.field-0 _ c.waiting.ensures c.in-Ok-Closing.ensures.front c.in-Ok-Closing.field-0-is)
-    c.refuse.ensures.ends refl refl
+pub answer-requires : goal.answer-requires
+answer-requires g c =
+    let r = subst (λ x. Receives x c.args.inbox.now c.receive.new.inbox (g.C.Source.left c.args.source.now) (g.C.Source.left c.receive.new.source) (g.K.Sink.held c.args.sink.now) (g.K.Sink.held c.receive.new.sink))
+    c.in-Ok-Whole.field-0-is c.in-Ok-Whole.ensures.receives in
+    body_within _ c.in-Ok-Whole.body.items _ c.in-Ok-Whole.head r.4
 
-pub returns-in-Whole-clause-on : goal.returns-in-Whole-clause-on
-returns-in-Whole-clause-on g c =
-    let h = front_read c.args.inbox.now.bytes c.waiting.result.now c.in-Ok-Whole.field-0 _ c.waiting.ensures c.in-Ok-Whole.ensures.front c.in-Ok-Whole.field-0-is in
-    let r = c.in-Whole.ensures.replies in
-    reply (answers_front r c.args.inbox.now c.in-Ok-Whole.n h) r.writes c.pass.ensures refl
+pub returns-then-head-clause-ends : goal.returns-then-head-clause-ends
+returns-then-head-clause-ends g c =
+    let r = subst (λ x. Receives x c.args.inbox.now c.receive.new.inbox (g.C.Source.left c.args.source.now) (g.C.Source.left c.receive.new.source) (g.K.Sink.held c.args.sink.now) (g.K.Sink.held c.receive.new.sink))
+    c.in-Ok-Whole.field-0-is c.in-Ok-Whole.ensures.receives in
+    stop_closing g.A.Answers.answers c.in-Ok-Whole.head c.in-Ok-Whole.body _ _ c.args.inbox.now c.receive.new.inbox _ _ _ _ _ r
+    (subst (λ s. Replies g.A.Answers.answers c.args.answers.now c.answer.new.answers (record { head = c.in-Ok-Whole.head; body = c.in-Ok-Whole.body.items }) s (g.K.Sink.held c.receive.new.sink) (g.K.Sink.held c.answer.new.sink))
+    c.in-Ok-Whole-answer.field-0-is c.in-Ok-Whole-answer.ensures.answered) c.if-head.true
 
-pub returns-in-Fault-clause-ends : goal.returns-in-Fault-clause-ends
-returns-in-Fault-clause-ends g c =
-    let h = front_read c.args.inbox.now.bytes c.waiting.result.now c.in-Ok-Whole.field-0 _ c.waiting.ensures c.in-Ok-Whole.ensures.front c.in-Ok-Whole.field-0-is in
-    let r = c.in-Fault.ensures.replies in
-    replying (answers_front r c.args.inbox.now c.in-Ok-Whole.n h) r.writes refl
+pub returns-in-Ok-Whole-answer-clause-on : goal.returns-in-Ok-Whole-answer-clause-on
+returns-in-Ok-Whole-answer-clause-on g c =
+    let r = subst (λ x. Receives x c.args.inbox.now c.receive.new.inbox (g.C.Source.left c.args.source.now) (g.C.Source.left c.receive.new.source) (g.K.Sink.held c.args.sink.now) (g.K.Sink.held c.receive.new.sink))
+    c.in-Ok-Whole.field-0-is c.in-Ok-Whole.ensures.receives in
+    goes_on g.A.Answers.answers c.in-Ok-Whole.head c.in-Ok-Whole.body _ _ c.args.inbox.now c.receive.new.inbox _ _ _ _ _ r
+    (subst (λ s. Replies g.A.Answers.answers c.args.answers.now c.answer.new.answers (record { head = c.in-Ok-Whole.head; body = c.in-Ok-Whole.body.items }) s (g.K.Sink.held c.receive.new.sink) (g.K.Sink.held c.answer.new.sink))
+    c.in-Ok-Whole-answer.field-0-is c.in-Ok-Whole-answer.ensures.answered) c.if-head.false
 
-pub returns-in-NoMemory-clause-ends : goal.returns-in-NoMemory-clause-ends
-returns-in-NoMemory-clause-ends g c =
-    let h = front_read c.args.inbox.now.bytes c.waiting.result.now c.in-Ok-Whole.field-0 _ c.waiting.ensures c.in-Ok-Whole.ensures.front c.in-Ok-Whole.field-0-is in
-    let r = c.in-NoMemory.ensures.replies in
-    replying (answers_front r c.args.inbox.now c.in-Ok-Whole.n h) r.writes refl
+pub returns-in-Ok-Fault-clause-ends : goal.returns-in-Ok-Fault-clause-ends
+returns-in-Ok-Fault-clause-ends g c =
+    let r = subst (λ x. Receives x c.args.inbox.now c.receive.new.inbox (g.C.Source.left c.args.source.now) (g.C.Source.left c.receive.new.source) (g.K.Sink.held c.args.sink.now) (g.K.Sink.held c.receive.new.sink))
+    c.in-Ok-Whole.field-0-is c.in-Ok-Whole.ensures.receives in
+    stop_writing g.A.Answers.answers c.in-Ok-Whole.head c.in-Ok-Whole.body _ _ c.args.inbox.now c.receive.new.inbox _ _ _ _ _ r
+    (subst (λ s. Replies g.A.Answers.answers c.args.answers.now c.answer.new.answers (record { head = c.in-Ok-Whole.head; body = c.in-Ok-Whole.body.items }) s (g.K.Sink.held c.receive.new.sink) (g.K.Sink.held c.answer.new.sink))
+    c.in-Ok-Fault.field-0-is c.in-Ok-Fault.ensures.answered)
+
+pub returns-in-Ok-NoMemory-clause-ends : goal.returns-in-Ok-NoMemory-clause-ends
+returns-in-Ok-NoMemory-clause-ends g c =
+    let r = subst (λ x. Receives x c.args.inbox.now c.receive.new.inbox (g.C.Source.left c.args.source.now) (g.C.Source.left c.receive.new.source) (g.K.Sink.held c.args.sink.now) (g.K.Sink.held c.receive.new.sink))
+    c.in-Ok-Whole.field-0-is c.in-Ok-Whole.ensures.receives in
+    stop_unsent g.A.Answers.answers c.in-Ok-Whole.head c.in-Ok-Whole.body _ _ c.args.inbox.now c.receive.new.inbox _ _ _ _ _ r
+    (subst (λ s. Replies g.A.Answers.answers c.args.answers.now c.answer.new.answers (record { head = c.in-Ok-Whole.head; body = c.in-Ok-Whole.body.items }) s (g.K.Sink.held c.receive.new.sink) (g.K.Sink.held c.answer.new.sink))
+    c.in-Ok-NoMemory.field-0-is c.in-Ok-NoMemory.ensures.answered)
+
+pub returns-clause-ends : goal.returns-clause-ends
+returns-clause-ends g c =
+    let r = subst (λ x. Receives x c.args.inbox.now c.receive.new.inbox (g.C.Source.left c.args.source.now) (g.C.Source.left c.receive.new.source) (g.K.Sink.held c.args.sink.now) (g.K.Sink.held c.receive.new.sink))
+    c.in-Ok-Whole.field-0-is c.in-Ok-Whole.ensures.receives in
+    stop_unasked g.A.Answers.answers c.in-Ok-Whole.head c.in-Ok-Whole.body _ _ c.args.inbox.now c.receive.new.inbox _ _ _ _ _ r c.in-Err-answer.ensures.answered.0 c.in-Err-answer.ensures.answered.1

@@ -1,7 +1,7 @@
 use Rattle.std.proofs.Common.{[], ◌∷◌, ◌++◌, refl, sym, ap, ◌∙◌, subst}
 use Rattle.std.specs.Fmt.{decimal}
-use Rattle.zot_session.proofs.OutsideLemmas.{Appends-append}
-use Rattle.zot_session.specs.Outside.{Appends}
+use Rattle.zot_outside.proofs.StreamLemmas.{Appends-append}
+use Rattle.zot_outside.specs.Streams.{Appends}
 use Rattle.zotd.proofs.NoteLemmas.{on_err, part_behind, part_of_both, whole_err}
 use Rattle.zotd.proofs.notes.write_number.Goals as goal
 

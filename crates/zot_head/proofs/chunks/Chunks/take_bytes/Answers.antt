@@ -1,4 +1,4 @@
-use Rattle.std.proofs.Common.{◌≡◌, ◌<◌, ap, subst, ◌∙◌, refl, inl, inr, arith, rules}
+use Rattle.std.proofs.Common.{◌≡◌, ap, subst, ◌∙◌, refl, inl, inr, arith, rules}
 use Rattle.zot_head.specs.declared.stage.Stage.{Stage}
 use Rattle.zot_head.specs.declared.stage.Stage.TheVariants.{Bytes}
 use Rattle.zot_head.specs.Progress.{Progress, IsSound}

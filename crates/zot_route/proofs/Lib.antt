@@ -1,0 +1,8 @@
+pub mod EndingLemmas
+pub mod PartLemmas
+pub mod LineLemmas
+pub mod ManifestLemmas
+pub mod NameLemmas
+pub mod RouteLemmas
+pub mod ValidLemmas
+pub mod OneLemmas

@@ -1,0 +1,74 @@
+//! What a manifest is asked.
+ghost use Rattle.std.specs.Prelude.{◌≡◌, Ok};
+ghost use Rattle.zot_model.specs.declared.code.Code.TheVariants.{ManifestInvalid, ManifestUnknown};
+ghost use Rattle.zot_model.specs.Reply.{refusal};
+ghost use Rattle.zot_route.specs.Asked.{AsksManifest, Puts, Refers};
+ghost use Rattle.zot_route.specs.Told.{IfTold};
+
+use crate::asks::not_allowed;
+use crate::lines::media;
+use crate::reference::reference;
+use crate::stop::Stop;
+use crate::verb::Verb;
+use std::alloc::Global;
+use zot_digest::Bytes;
+use zot_head::Field;
+use zot_media::Reference;
+use zot_model::{Call, Code, Methods, Reply};
+
+/// The most bytes of a manifest.
+const LIMIT: usize = 4_194_304;
+
+/// What a manifest is asked, by the text of its reference, the fields and the body.
+pub fn manifest(
+    alloc: Global,
+    verb: Verb,
+    text: &str,
+    fields: &[Field],
+    body: Bytes,
+) -> Result<Call, Stop>
+    ensures { IfTold result (AsksManifest verb text.now fields.now body) }
+{
+    match verb {
+        Verb::Get => Ok(Call::GetManifest(known(alloc, text)?)),
+        Verb::Head => Ok(Call::HeadManifest(known(alloc, text)?)),
+        Verb::Delete => Ok(Call::DeleteManifest(known(alloc, text)?)),
+        Verb::Put => {
+            let reference = wanted(alloc, text)?;
+            put(alloc, reference, fields, body)
+        }
+        Verb::Post | Verb::Patch | Verb::Other => {
+            Err(Stop::Refused(not_allowed(Methods::Manifest)))
+        }
+    }
+}
+
+// The reference to a manifest that may be there.
+fn known(alloc: Global, text: &str) -> Result<Reference, Stop>
+    ensures { IfTold result (Refers text.now (refusal 404 ManifestUnknown)) }
+{
+    reference(alloc, text, Reply::refused(404, Code::ManifestUnknown))
+}
+
+// The reference of a manifest to be stored.
+fn wanted(alloc: Global, text: &str) -> Result<Reference, Stop>
+    ensures { IfTold result (Refers text.now (refusal 400 ManifestInvalid)) }
+{
+    reference(alloc, text, Reply::refused(400, Code::ManifestInvalid))
+}
+
+// A manifest to be stored, with its media.
+#[tactic(auto, unfolding(zot_model::specs::Valid::manifest_limit))]
+fn put(alloc: Global, reference: Reference, fields: &[Field], body: Bytes) -> Result<Call, Stop>
+    ensures { IfTold result (Puts fields.now body (Ok reference)) }
+{
+    if body.as_slice().len() > LIMIT {
+        return Err(Stop::Refused(Reply::refused(413, Code::SizeInvalid)));
+    }
+    let media = media(alloc, fields, body.as_slice())?;
+    Ok(Call::PutManifest {
+        reference,
+        media,
+        body,
+    })
+}

@@ -1,0 +1,12 @@
+use Rattle.std.proofs.Common.{◌≡◌, ℕ, ◌-◌, ◌≤◌, List, length}
+use Rattle.zot_session.specs.Receiving.{Came}
+use Rattle.zot_session.specs.Waiting.{budget}
+use Rattle.zot_session.proofs.body.receive_length.Given as goal
+
+-- what was passed over is the body so far, and no call failed
+abbrev pub invariant-pieces : goal.invariant-pieces
+invariant-pieces g l = (came : List ℕ) × Came l.fn.inbox l.inbox l.body.items came (g.C.Source.left l.fn.source) (g.C.Source.left l.source) × (length l.body.items ≤ l.size)
+    × (g.C.Source.faults l.source ≡ g.C.Source.faults l.fn.source)
+
+abbrev pub decreases-pieces : goal.decreases-pieces
+decreases-pieces g l = budget - l.inbox.taken

@@ -1,0 +1,80 @@
+-- The messages of a connection: what stands at the front of its bytes, one behind another (RFC 9112, sections 2.1 and 9.3).
+use Rattle.std.specs.Prelude.{◌≡◌, ⊤, ℕ, ◌≤◌, ◌==◌, ◌&&◌, not, Bool, true, false, if◌then◌else◌, List, [], ◌∷◌, length, take, ◌⊎◌, codes}
+use Rattle.zot_head.specs.declared.framing.Framing.{Framing}
+use Rattle.zot_head.specs.declared.framing.Framing.TheVariants as framings
+use Rattle.zot_head.specs.declared.head.Head.{Head}
+use Rattle.zot_head.specs.Front.{IsFront, IsHead, Refusal}
+use Rattle.zot_head.specs.Front as fronts
+use Rattle.zot_head.specs.Limits.{head_limit}
+use Rattle.zot_head.specs.Lines.{Ends, extent, head_end}
+use Rattle.zot_model.specs.declared.code.Code.TheVariants as reasons
+use Rattle.zot_model.specs.declared.reply.Reply.{Reply}
+use Rattle.zot_model.specs.Reply.{refusal}
+use Rattle.zot_model.specs.Valid.{body_limit}
+
+-- a message: its head and its body
+pub record Message : Type 0 where
+  pub head : Head
+  pub body : List ℕ
+
+-- a message stands at the front of the bytes, and the rest behind it
+abbrev pub Stands : List ℕ → Message → List ℕ → Type 0
+Stands bytes message rest = IsFront body_limit bytes (fronts.Message message.head message.body rest)
+
+-- less than a message stands at the front
+abbrev pub IsPartial : List ℕ → Type 0
+IsPartial bytes = IsFront body_limit bytes fronts.Partial
+
+-- what stands at the front is refused
+abbrev pub IsRefused : List ℕ → Refusal → Type 0
+IsRefused bytes why = IsFront body_limit bytes (fronts.Refused why)
+
+-- the messages of a list of bytes, one behind another, and what is left behind them
+abbrev pub Messages : List ℕ → List Message → List ℕ → Type 0
+Messages bytes [] rest = bytes ≡ rest
+Messages bytes (message ∷ messages) rest = (behind : List ℕ) × Stands bytes message behind × Messages behind messages rest
+
+-- the status of a message that is refused for its head or for the form of its body (RFC 9110, section 15.5; RFC 6585, section 5)
+abbrev pub status_of : Refusal → ℕ
+status_of fronts.HeadInvalid = 400
+status_of fronts.SizeInvalid = 413
+status_of fronts.HeadTooLong = 431
+
+-- the reply to it, behind which the connection closes
+abbrev pub refused_as : Refusal → Reply
+refused_as fronts.HeadInvalid = refusal 400 reasons.HeadInvalid
+refused_as fronts.SizeInvalid = refusal 413 reasons.SizeInvalid
+refused_as fronts.HeadTooLong = refusal 431 reasons.HeadTooLong
+
+-- nothing but empty lines, of LF or CR LF, where `cr` says that a CR stands before the bytes
+abbrev pub blank_after : Bool → List ℕ → Bool
+blank_after cr [] = not cr
+blank_after cr (b ∷ bytes) = if b == 10 then blank_after false bytes else (if b == 13 && not cr then blank_after true bytes else false)
+
+abbrev pub is_blank : List ℕ → Bool
+is_blank bytes = blank_after false bytes
+
+-- what is written before a body is read that the sender holds back (RFC 9110, section 15.2.1)
+unfoldable pub continue_text : List ℕ
+continue_text = codes "HTTP/1.1 100 Continue\r\n\r\n"
+
+-- the same where the head asks for it
+abbrev pub continue_of : Head → List ℕ
+continue_of head = if head.expects then continue_text else []
+
+-- a body that is framed so is read
+abbrev pub IsRead : Framing → Type 0
+IsRead framings.None = ⊤
+IsRead (framings.Length n) = n ≤ body_limit
+IsRead framings.Chunked = ⊤
+
+-- a whole head stands at the front of the bytes, whose body is read
+pub record HasHead (bytes : List ℕ) (head : Head) : Type 0 where
+  pub size : ℕ
+  pub ends : extent head_end head_limit bytes ≡ Ends size
+  pub is : IsHead (take size bytes) head
+  pub reads : IsRead head.framing
+
+-- what is owed of the message at the front before its reply: a `100 Continue` where its head asks for one (RFC 9110, section 10.1.1)
+abbrev pub Owes : List ℕ → List ℕ → Type 0
+Owes bytes text = ((head : Head) × HasHead bytes head × (text ≡ continue_of head)) ⊎ (((head : Head) → ¬ HasHead bytes head) × (text ≡ []))

@@ -1,0 +1,134 @@
+//! The body of the message at hand, as its bytes come.
+ghost use Rattle.std.specs.Prelude.{◌≡◌, ◌≤◌, length, min, IfOk, IfErr};
+ghost use Rattle.zot_head.specs.declared.framing.Framing.TheVariants as framings;
+ghost use Rattle.zot_session.specs.Messages.{IsRead};
+ghost use Rattle.zot_session.specs.Receiving.{Bodies, BodyEnds, broken_as};
+ghost use Rattle.zot_session.specs.Turn.{ReadCauseOf};
+ghost use Rattle.zot_model.specs.Valid.{body_limit};
+
+use crate::end::End;
+use crate::inbox::Inbox;
+use crate::pieces::take;
+use std::alloc::Global;
+use zot_head::{ChunkError, Chunks, Framing};
+use zot_model::{Code, Reply};
+use zot_outside::Source;
+
+/// The most bytes that a body has.
+pub const BODY_LIMIT: u64 = 67_108_864;
+
+/// What came of the body of a message.
+#[derive(Drop)]
+pub enum Body {
+    /// It is whole, and its bytes were passed over.
+    Whole(Vec<u8>),
+    /// The message is refused so.
+    Refused(Reply),
+}
+
+/// Receives the body of a message that began behind so many bytes of the connection: takes pieces until it is whole or refused. An `Err` ends the connection.
+pub fn receive_body<C: Source>(
+    alloc: Global,
+    inbox: &mut Inbox,
+    source: &mut C,
+    framing: Framing,
+    begun: u64,
+) -> Result<Body, End>
+    requires reads { IsRead framing }
+    requires begun { begun ≤ inbox.old.taken }
+    ensures bodies { IfOk result (λ body. Bodies body framing inbox.old inbox.new (C.left source.old) (C.left source.new)) }
+    ensures ends { IfErr result (λ end. BodyEnds end framing begun inbox.old inbox.new (C.left source.old) (C.left source.new)) }
+    ensures read { ReadCauseOf result (C.faults source.old) (C.faults source.new) }
+{
+    match framing {
+        Framing::None => Ok(Body::Whole(Vec::new(alloc))),
+        Framing::Length(size) => receive_length(alloc, inbox, source, size, begun),
+        Framing::Chunked => receive_chunks(alloc, inbox, source, begun),
+    }
+}
+
+// Receives a body of that many bytes.
+fn receive_length<C: Source>(
+    alloc: Global,
+    inbox: &mut Inbox,
+    source: &mut C,
+    size: u64,
+    begun: u64,
+) -> Result<Body, End>
+    requires within { size ≤ body_limit }
+    requires begun { begun ≤ inbox.old.taken }
+    ensures bodies { IfOk result (λ body. Bodies body (framings.Length size) inbox.old inbox.new (C.left source.old) (C.left source.new)) }
+    ensures ends { IfErr result (λ end. BodyEnds end (framings.Length size) begun inbox.old inbox.new (C.left source.old) (C.left source.new)) }
+    ensures read { ReadCauseOf result (C.faults source.old) (C.faults source.new) }
+{
+    let mut body = Vec::new(alloc);
+    'pieces: loop {
+        let n = share(size - body.len() as u64, inbox.waiting());
+        match body.extend_from_slice(&inbox.waiting()[..n]) {
+            Ok(()) => inbox.pass(n),
+            Err(_) => return Err(End::NoMemory),
+        }
+        if body.len() as u64 == size {
+            return Ok(Body::Whole(body));
+        }
+        match take(inbox, source) {
+            Ok(true) => {}
+            Ok(false) => return Err(End::Torn(inbox.taken() - begun)),
+            Err(end) => return Err(end),
+        }
+    }
+}
+
+// How many of the bytes that wait belong to a body that lacks so many.
+fn share(lacks: u64, waiting: &[u8]) -> usize
+    ensures { result ≡ min lacks (length waiting.now) }
+{
+    lacks.min(waiting.len() as u64) as usize
+}
+
+// Receives a body in chunks.
+fn receive_chunks<C: Source>(
+    alloc: Global,
+    inbox: &mut Inbox,
+    source: &mut C,
+    begun: u64,
+) -> Result<Body, End>
+    requires begun { begun ≤ inbox.old.taken }
+    ensures bodies { IfOk result (λ body. Bodies body framings.Chunked inbox.old inbox.new (C.left source.old) (C.left source.new)) }
+    ensures ends { IfErr result (λ end. BodyEnds end framings.Chunked begun inbox.old inbox.new (C.left source.old) (C.left source.new)) }
+    ensures read { ReadCauseOf result (C.faults source.old) (C.faults source.new) }
+{
+    let mut chunks = Chunks::new(BODY_LIMIT);
+    let mut body = Vec::new(alloc);
+    'pieces: loop {
+        match chunks.feed(inbox.waiting(), &mut body) {
+            Err(error) => match broken(error) {
+                Some(reply) => return Ok(Body::Refused(reply)),
+                None => return Err(End::NoMemory),
+            },
+            Ok(fed) => {
+                inbox.pass(fed.taken);
+                if fed.done {
+                    return Ok(Body::Whole(body));
+                }
+            }
+        }
+        match take(inbox, source) {
+            Ok(true) => {}
+            Ok(false) => return Err(End::Torn(inbox.taken() - begun)),
+            Err(end) => return Err(end),
+        }
+    }
+}
+
+// The refusal of a message whose body in chunks isn't read for this cause, or none where memory ran out.
+fn broken(error: ChunkError) -> Option<Reply>
+    ensures { result ≡ broken_as error }
+{
+    match error {
+        ChunkError::Bad => Some(Reply::refused(400, Code::HeadInvalid)),
+        ChunkError::TooLong => Some(Reply::refused(431, Code::HeadTooLong)),
+        ChunkError::TooLarge => Some(Reply::refused(413, Code::SizeInvalid)),
+        ChunkError::NoMemory => None,
+    }
+}
