@@ -18,7 +18,7 @@ use Rattle.zot_model.specs.declared.reply.Reply.TheVariants as replies
 use Rattle.zot_names.specs.Upload.{upload_text}
 use Rattle.zot_spell.specs.Bodies.{detail_text, error_body}
 use Rattle.zot_spell.specs.Fields.{blob_place, closing_field, crlf, digest_field, filter_field, length_field, location_field, manifest_place, range_field, range_text, size_field, status_line, subject_field, type_field, upload_field, upload_fields, upload_place}
-use Rattle.zot_spell.specs.Reading.{Confirms, Differs, Finds, IsBlob, IsBlobHead, IsBlobMade, IsIndex, IsManifest, IsManifestHead, IsPlainRefusal, IsRangeRefusal, IsReal, IsReferrers, IsSession, IsWithSubject, IsWithoutSubject}
+use Rattle.zot_spell.specs.Reading.{Confirms, Differs, Finds, IsBlob, IsBlobHead, IsBlobMade, IsIndex, IsManifest, IsManifestHead, IsRangeRefusal, IsReal, IsReferrers, IsSession, IsWithSubject, IsWithoutSubject}
 use Rattle.zot_spell.specs.Spelling.{body_lines, byte_media, json_media, parts_of, refusal_fields, rest_of, shown_body, spelled}
 
 pub ap₃ : {A B C D : Type 0} (f : A → B → C → D) {a x : A} {b y : B} {c z : C} → a ≡ x → b ≡ y → c ≡ z → f a b c ≡ f x y z
@@ -221,43 +221,37 @@ subject_bytes name digest subject close = simp append_assoc
 
 -- ---- refusals
 
-pub plain_refusal : (name : List ℕ) (head close : Bool) (bytes : List ℕ) (code : Code) (status : ℕ) → status ≡ status_of code → (reply : Reply) → IsPlainRefusal code reply
-    → bytes ≡ spelled (parts_of name reply) head close → bytes ≡ spelled (parts_of name (replies.Refused status code details.None)) head close
-plain_refusal name head close bytes code status s (replies.Refused other reason details.None) kind e =
-    e ∙ ap₂ (λ (n : ℕ) (c : Code). spelled (parts_of name (replies.Refused n c details.None)) head close) (kind.1 ∙ sym s) kind.0
-plain_refusal name head close bytes code status s reply kind e = absurd kind
-
 -- the refusal of an upload's range
 abbrev pub range_refusal : ℕ → ℕ → Reply
 range_refusal id size = replies.Refused 416 BlobUploadInvalid (details.Session id size)
 
 -- what stands behind the own fields of such a refusal
-abbrev pub behind_refusal : ℕ → ℕ → Bool → List ℕ
-behind_refusal id size close =
+abbrev pub behind_refusal : ℕ → ℕ → Bool → Bool → List ℕ
+behind_refusal id size head close =
     let body = error_body BlobUploadInvalid (details.Session id size) in
-    body_lines 416 (Some json_media) (length body) close ++ body
+    body_lines 416 (Some json_media) (length body) close ++ shown_body head body
 
 pub for_range_refusal : (P : Reply → Type 0) → ((id size : ℕ) → P (range_refusal id size)) → (reply : Reply) → IsRangeRefusal reply → P reply
 for_range_refusal P f (replies.Refused status code (details.Session id size)) h =
     subst (λ (s : ℕ). P (replies.Refused s code (details.Session id size))) (sym h.0) (subst (λ (c : Code). P (replies.Refused 416 c (details.Session id size))) (sym h.1) (f id size))
 for_range_refusal P f reply h = absurd h
 
-pub refusal_id_bytes : (name : List ℕ) (id size : ℕ) (close : Bool)
-    → spelled (parts_of name (range_refusal id size)) false close
-    ≡ (status_line 416 ++ codes "Location: " ++ codes "/v2/" ++ name ++ codes "/blobs/uploads/") ++ (upload_text id ++ (crlf ++ (range_field size ++ (upload_field id ++ behind_refusal id size close))))
-unfolding spelled parts_of rest_of shown_body refusal_fields upload_fields location_field upload_place
-refusal_id_bytes name id size close = simp append_assoc
+pub refusal_id_bytes : (name : List ℕ) (id size : ℕ) (head close : Bool)
+    → spelled (parts_of name (range_refusal id size)) head close
+    ≡ (status_line 416 ++ codes "Location: " ++ codes "/v2/" ++ name ++ codes "/blobs/uploads/") ++ (upload_text id ++ (crlf ++ (range_field size ++ (upload_field id ++ behind_refusal id size head close))))
+unfolding spelled parts_of rest_of refusal_fields upload_fields location_field upload_place
+refusal_id_bytes name id size head close = simp append_assoc
 
-pub refusal_range_bytes : (name : List ℕ) (id size : ℕ) (close : Bool)
-    → spelled (parts_of name (range_refusal id size)) false close
-    ≡ (status_line 416 ++ location_field (upload_place name id) ++ codes "Range: " ++ codes "0-") ++ (decimal (size - 1) ++ (13 ∷ (10 ∷ (upload_field id ++ behind_refusal id size close))))
-unfolding spelled parts_of rest_of shown_body refusal_fields upload_fields range_field range_text
-refusal_range_bytes name id size close = simp append_assoc
+pub refusal_range_bytes : (name : List ℕ) (id size : ℕ) (head close : Bool)
+    → spelled (parts_of name (range_refusal id size)) head close
+    ≡ (status_line 416 ++ location_field (upload_place name id) ++ codes "Range: " ++ codes "0-") ++ (decimal (size - 1) ++ (13 ∷ (10 ∷ (upload_field id ++ behind_refusal id size head close))))
+unfolding spelled parts_of rest_of refusal_fields upload_fields range_field range_text
+refusal_range_bytes name id size head close = simp append_assoc
 
-pub range_refusal_alike : (name : List ℕ) (id size other : ℕ) (close : Bool) → size - 1 ≡ other - 1
-    → spelled (parts_of name (range_refusal id size)) false close ≡ spelled (parts_of name (range_refusal id other)) false close
+pub range_refusal_alike : (name : List ℕ) (id size other : ℕ) (head close : Bool) → size - 1 ≡ other - 1
+    → spelled (parts_of name (range_refusal id size)) head close ≡ spelled (parts_of name (range_refusal id other)) head close
 unfolding parts_of refusal_fields upload_fields range_field range_text error_body detail_text
-range_refusal_alike name id size other close h = rw h refl
+range_refusal_alike name id size other head close h = rw h refl
 
 -- ---- what is confirmed is found
 

@@ -1,5 +1,6 @@
 pub mod AlikeLemmas
 pub mod BodyLemmas
+pub mod DetailLemmas
 pub mod FitLemmas
 pub mod FoundLemmas
 pub mod MediaTextLemmas

@@ -1,5 +1,5 @@
 -- Replies read back from their bytes.
-use Rattle.std.specs.Prelude.{◌≡◌, ◌≢◌, ℕ, ◌<◌, ◌^◌, ◌==◌, Bool, true, false, List, length, Option, Some, None, IfSome, slice_index, ⊤}
+use Rattle.std.specs.Prelude.{◌≡◌, ◌≢◌, ℕ, ◌<◌, ◌^◌, ◌==◌, Bool, true, false, List, ◌++◌, length, Option, Some, None, IfSome, codes, slice_index, ⊤}
 use Rattle.std.specs.List.{AllByRecursion}
 use Rattle.zot_digest.specs.Digest.{IsDigest}
 use Rattle.zot_model.specs.declared.call.Call.{Call}
@@ -10,9 +10,10 @@ use Rattle.zot_model.specs.declared.reply.Reply.{Reply}
 use Rattle.zot_model.specs.declared.reply.Reply.TheVariants as replies
 use Rattle.zot_model.specs.declared.request.Request.{Request}
 use Rattle.zot_model.specs.declared.code.Code.{Code}
-use Rattle.zot_model.specs.declared.code.Code.TheVariants.{BlobUploadInvalid}
-use Rattle.zot_model.specs.Fits.{Fits, HasDetail, status_of}
+use Rattle.zot_model.specs.declared.code.Code.TheVariants.{BlobUploadInvalid, ManifestBlobUnknown, UpstreamIncomplete, UpstreamInvalid}
+use Rattle.zot_model.specs.Fits.{Fits, HasDetail, IsAmong, status_of}
 use Rattle.zot_names.specs.Tag.{IsTag}
+use Rattle.zot_spell.specs.Codes.{code_text}
 use Rattle.zot_spell.specs.Spelling.{parts_of, reply_bytes, spelled}
 
 -- no byte of the text is this one
@@ -114,10 +115,6 @@ abbrev pub IsWithoutSubject : Reply → Type 0
 IsWithoutSubject (replies.ManifestMade digest None) = ⊤
 IsWithoutSubject _ = ⊥
 
-abbrev pub IsPlainRefusal : Code → Reply → Type 0
-IsPlainRefusal code (replies.Refused status other details.None) = (other ≡ code) × (status ≡ status_of code)
-IsPlainRefusal code _ = ⊥
-
 abbrev pub IsRangeRefusal : Reply → Type 0
 IsRangeRefusal (replies.Refused status code (details.Session id size)) = (status ≡ 416) × (code ≡ BlobUploadInvalid)
 IsRangeRefusal _ = ⊥
@@ -126,3 +123,23 @@ IsRangeRefusal _ = ⊥
 abbrev pub IsRefusedAs : Code → Reply → Type 0
 IsRefusedAs code (replies.Refused status other detail) = (other ≡ code) × (status ≡ status_of code) × HasDetail code detail
 IsRefusedAs code _ = ⊥
+
+-- a refusal with one of these codes, its status and its kind of detail
+abbrev pub IsRefusedAmong : List Code → Reply → Type 0
+IsRefusedAmong among (replies.Refused status other detail) = IsAmong among other × (status ≡ status_of other) × HasDetail other detail
+IsRefusedAmong among _ = ⊥
+
+-- the codes whose body says which digest is missing or unreadable
+abbrev pub TellsMissing : Code → Type 0
+TellsMissing ManifestBlobUnknown = ⊤
+TellsMissing UpstreamIncomplete = ⊤
+TellsMissing UpstreamInvalid = ⊤
+TellsMissing _ = ⊥
+
+-- the body of a refusal up to its detail's text
+unfoldable pub detail_front : Code → List ℕ
+detail_front code = codes "{\"errors\":[{\"code\":\"" ++ (code_text code ++ codes "\",\"detail\":\"")
+
+-- the refusal of a request with this code
+abbrev pub refusal_with : Code → Detail → Reply
+refusal_with code detail = replies.Refused (status_of code) code detail

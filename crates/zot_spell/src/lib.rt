@@ -10,6 +10,7 @@ mod proposed;
 mod query;
 mod read_reply_error;
 mod reading;
+mod refusals;
 mod reply;
 mod request;
 mod status;

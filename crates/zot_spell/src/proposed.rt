@@ -7,7 +7,7 @@ ghost use Rattle.zot_media.specs.declared.media.Media.{Media};
 ghost use Rattle.zot_media.specs.Media.{media_text};
 ghost use Rattle.zot_model.specs.Fits.{status_of};
 ghost use Rattle.zot_spell.specs.Fields.{digest_field, filter_field, location_field, manifest_place, size_field, status_line, type_field, upload_place};
-ghost use Rattle.zot_spell.specs.Reading.{Confirms, Finds, IsBlob, IsBlobHead, IsBlobMade, IsIndex, IsManifest, IsManifestHead, IsManifestMade, IsPlainRefusal, IsRangeRefusal, IsReferrers, IsSession, IsWithSubject, IsWithoutSubject};
+ghost use Rattle.zot_spell.specs.Reading.{Confirms, Finds, IsBlob, IsBlobHead, IsBlobMade, IsIndex, IsManifest, IsManifestHead, IsManifestMade, IsRangeRefusal, IsReferrers, IsSession, IsWithSubject, IsWithoutSubject};
 ghost use Rattle.zot_spell.specs.Spelling.{HasStatus, body_lines};
 
 use crate::fields::{push_digest, push_filter, push_location, push_type};
@@ -22,8 +22,8 @@ use zot_media::{Media, media_of};
 use zot_model::{Code, Detail, Reply};
 use zot_names::UploadId;
 
-// The reply, where the bytes are it.
-fn confirm(
+/// The reply, where the bytes are it.
+pub fn confirm(
     alloc: Global,
     name: &str,
     reply: Reply,
@@ -61,8 +61,8 @@ fn digest_front(alloc: Global) -> Result<Vec<u8>, AllocError>
     Ok(front)
 }
 
-// The lines of a reply through its only own field, which names a digest.
-fn start_of(alloc: Global, digest: &Digest) -> Result<Vec<u8>, AllocError>
+/// The lines of a reply through its only own field, which names a digest.
+pub fn start_of(alloc: Global, digest: &Digest) -> Result<Vec<u8>, AllocError>
     ensures { IfOk result (λ start. start.items ≡ status_line 200 ++ digest_field digest.now) }
 {
     let mut start = Vec::new(alloc);
@@ -71,8 +71,8 @@ fn start_of(alloc: Global, digest: &Digest) -> Result<Vec<u8>, AllocError>
     Ok(start)
 }
 
-// The size that stands behind the start of a reply, where its body has these media.
-fn find_size(
+/// The size that stands behind the start of a reply, where its body has these media.
+pub fn find_size(
     alloc: Global,
     bytes: &[u8],
     start: &[u8],
@@ -95,8 +95,8 @@ fn size_front(alloc: Global, start: &[u8], media: &str) -> Result<Vec<u8>, Alloc
     Ok(front)
 }
 
-// The body that stands behind the start of a reply, where it has these media.
-fn find_body<'a>(
+/// The body that stands behind the start of a reply, where it has these media.
+pub fn find_body<'a>(
     alloc: Global,
     bytes: &'a [u8],
     start: &[u8],
@@ -488,29 +488,11 @@ fn subject_front(alloc: Global, name: &str, digest: &Digest) -> Result<Vec<u8>, 
     Ok(front)
 }
 
-/// The refusal with a code that says nothing beside it, if bytes are it.
-pub fn read_plain_refusal(
-    alloc: Global,
-    name: &str,
-    bytes: &[u8],
-    head: bool,
-    close: bool,
-    code: Code,
-) -> Result<Option<Reply>, AllocError>
-    ensures { IfOk result (Finds (IsPlainRefusal code) name.now head close bytes.now) }
-{
-    let reply = Reply::Refused {
-        status: status_of_code(code),
-        code,
-        detail: Detail::None,
-    };
-    confirm(alloc, name, reply, head, close, bytes)
-}
-
-// The status of a refused request.
-fn status_of_code(code: Code) -> u16
+/// The status of a refused request.
+pub fn status_of_code(code: Code) -> u16
     ensures value { result ≡ status_of code }
     ensures three { IsStatusCode result }
+    ensures content { (result == 204) ≡ false }
 {
     match code {
         Code::DigestInvalid
@@ -543,9 +525,10 @@ pub fn read_range_refusal(
     alloc: Global,
     name: &str,
     bytes: &[u8],
+    head: bool,
     close: bool,
 ) -> Result<Option<Reply>, AllocError>
-    ensures { IfOk result (Finds IsRangeRefusal name.now false close bytes.now) }
+    ensures { IfOk result (Finds IsRangeRefusal name.now head close bytes.now) }
 {
     let front = id_front(alloc, name, 416)?;
     let Some(id) = id_behind(bytes, front.as_slice()) else {
@@ -563,5 +546,5 @@ pub fn read_range_refusal(
         code: Code::BlobUploadInvalid,
         detail: Detail::Session(id, last + 1),
     };
-    confirm(alloc, name, reply, false, close, bytes)
+    confirm(alloc, name, reply, head, close, bytes)
 }
