@@ -4,6 +4,8 @@ pub mod DetailLemmas
 pub mod FitLemmas
 pub mod FoundLemmas
 pub mod MediaTextLemmas
+pub mod PageLemmas
 pub mod PlainLemmas
 pub mod ReadingLemmas
+pub mod ReplyingLemmas
 pub mod RestLemmas

@@ -1,6 +1,8 @@
 -- Replies read back from their bytes.
-use Rattle.std.specs.Prelude.{◌≡◌, ◌≢◌, ℕ, ◌<◌, ◌^◌, ◌==◌, Bool, true, false, List, ◌++◌, length, Option, Some, None, IfSome, codes, slice_index, ⊤}
+use Rattle.std.specs.Prelude.{◌≡◌, ◌≢◌, ℕ, ◌<◌, ◌^◌, ◌==◌, Bool, true, false, List, ◌++◌, length, Option, Some, None, IfSome, codes, [], ◌∷◌, slice_index, ⊤, ◌⊎◌}
 use Rattle.std.specs.List.{AllByRecursion}
+use Rattle.json.specs.Print.{quoted}
+use Rattle.serde_json.specs.Written.{comma_if}
 use Rattle.zot_digest.specs.Digest.{IsDigest}
 use Rattle.zot_model.specs.declared.call.Call.{Call}
 use Rattle.zot_model.specs.declared.call.Call.TheVariants as calls
@@ -143,3 +145,27 @@ detail_front code = codes "{\"errors\":[{\"code\":\"" ++ (code_text code ++ code
 -- the refusal of a request with this code
 abbrev pub refusal_with : Code → Detail → Reply
 refusal_with code detail = replies.Refused (status_of code) code detail
+
+-- a page behind which none follows, and one behind which one does
+abbrev pub IsLastPage : Reply → Type 0
+IsLastPage (replies.Tags tags None n) = ⊤
+IsLastPage _ = ⊥
+
+abbrev pub IsLinkedPage : Reply → Type 0
+IsLinkedPage (replies.Tags tags (Some next) n) = ⊤
+IsLinkedPage _ = ⊥
+
+-- the body of a page up to its tags
+unfoldable pub page_front : List ℕ → List ℕ
+page_front name = codes "{\"name\":" ++ (quoted name ++ codes ",\"tags\":[")
+
+-- the tags of a page, through its end; a comma stands before those that are later
+abbrev pub tags_text : Bool → List (List ℕ) → List ℕ
+tags_text later [] = 93 ∷ (125 ∷ [])
+tags_text later (tag ∷ tags) = comma_if later ++ (34 ∷ (tag ++ (34 ∷ tags_text true tags)))
+
+-- the blob was stored, or an upload begins
+abbrev pub IsTaken : Reply → Type 0
+IsTaken (replies.BlobMade digest) = ⊤
+IsTaken (replies.Session id size status) = status ≡ 202
+IsTaken _ = ⊥

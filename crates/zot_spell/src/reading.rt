@@ -1,5 +1,5 @@
 //! What stands at a place of some bytes.
-ghost use Rattle.std.specs.Prelude.{◌≡◌, ◌<◌, ◌^◌, ◌++◌, ◌∷◌, ◌==◌, ℕ, List, length, Some};
+ghost use Rattle.std.specs.Prelude.{◌≡◌, ◌<◌, ◌^◌, ◌++◌, ◌∷◌, ◌==◌, ℕ, List, length, Some, None, IfSome, MatchOption};
 ghost use Rattle.std.specs.Fmt.{decimal};
 ghost use Rattle.std.specs.List.{before_first};
 ghost use Rattle.std.specs.Option.{option_copied};
@@ -121,4 +121,19 @@ fn number_of(text: &[u8]) -> Option<u64>
         Ok(text) => text.parse::<u64>().ok(),
         Err(_) => None,
     }
+}
+
+/// The bytes before and behind the first one that is the end. Takes no memory.
+pub fn cut(bytes: &[u8], end: u8) -> Option<(&[u8], &[u8])>
+    ensures found { (text rest : List ℕ) → IsFree end text → bytes.now ≡ text ++ (end ∷ rest)
+        → MatchOption result ⊥ (λ parts. (parts.0.now ≡ text) × (parts.1.now ≡ rest)) }
+    ensures none { IsFree end bytes.now → result ≡ None }
+    ensures shorter { IfSome result (λ parts. length parts.1.now < length bytes.now) }
+{
+    let place = before(bytes, end).len();
+    if place == bytes.len() {
+        return None;
+    }
+    let (text, rest) = bytes.split_at(place);
+    Some((text, &rest[1..]))
 }

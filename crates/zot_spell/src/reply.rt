@@ -33,8 +33,8 @@ pub fn spell_reply(
     spell(alloc, name, reply, head, close)
 }
 
-// The name of a request's repository, or no text.
-fn name_of<'a>(request: Option<&'a Request>) -> &'a str
+/// The name of a request's repository, or no text.
+pub fn name_of<'a>(request: Option<&'a Request>) -> &'a str
     ensures { result.now ≡ name_in (option_copied request.entry) }
 {
     match request {
