@@ -9,19 +9,19 @@ mod pages;
 mod places;
 mod proposed;
 mod query;
-mod replying;
 mod read_reply_error;
 mod reading;
 mod refusals;
 mod refused;
 mod reply;
+mod replying;
 mod request;
 mod status;
 #[cfg(test)]
 mod tests;
 
 pub use crate::laws::alike_replies;
-pub use crate::replying::read_reply;
 pub use crate::read_reply_error::ReadReplyError;
 pub use crate::reply::spell_reply;
+pub use crate::replying::read_reply;
 pub use crate::request::spell_request;

@@ -1,7 +1,7 @@
 //! Each kind of reply and of request, against the lines that the specifications give them.
 ghost use Rattle.zot_model.specs.Fits.{Declines, FitsCall};
 
-use crate::{alike_replies, spell_reply, spell_request};
+use crate::{ReadReplyError, alike_replies, read_reply, spell_reply, spell_request};
 use std::alloc::{AllocError, Global};
 use std::test::Fail;
 use zot_digest::{Bytes, Digest, Words, digest_of};
@@ -93,7 +93,22 @@ fn is_spelled(
         hop: true,
     };
     let bytes = spell_reply(alloc, Some(&request), &reply, head, close)?;
+    let is_head = matches!(&request.call, Call::HeadBlob(_) | Call::HeadManifest(_));
+    if head == is_head && !is_read(alloc, &request, bytes.as_slice())? {
+        return Ok(false);
+    }
     is_line(alloc, line, bytes.as_slice())
+}
+
+// Whether a reply is read from the bytes, and none from these with one more.
+fn is_read(alloc: Global, request: &Request, bytes: &[u8]) -> Result<bool, Fail> {
+    let is_whole = read_reply(alloc, request, bytes).is_ok();
+    let mut longer = Vec::from_slice(alloc, bytes)?;
+    longer.push(b'}')?;
+    match read_reply(alloc, request, longer.as_slice()) {
+        Err(ReadReplyError::Bad) => Ok(is_whole),
+        _ => Ok(false),
+    }
 }
 
 // Whether a refusal of a message that asks for nothing is spelled as the line says, before the connection closes.
@@ -379,6 +394,40 @@ fn refusals_with_details(rt: HostRuntime) -> Result<(), Fail> {
     let too_long = Reply::refused(431, Code::HeadTooLong);
     assert!(rt; is_declined(alloc, lines.next(), &too_long)?);
     assert!(rt; lines.next().is_none());
+    Ok(())
+}
+
+// Whether a page of two tags is read, with the link to the next one.
+fn is_page(alloc: Global, request: &Request, bytes: &[u8]) -> bool {
+    match read_reply(alloc, request, bytes) {
+        Ok(reply) => is_linked(&reply),
+        Err(_) => false,
+    }
+}
+
+// Whether a reply is such a page.
+fn is_linked(reply: &Reply) -> bool {
+    match reply {
+        Reply::Tags { tags, next, n } => { tags.as_slice().len() == 2 && next.is_some() && *n == 2 }
+        _ => false,
+    }
+}
+
+#[test]
+fn read_back(rt: HostRuntime) -> Result<(), Fail> {
+    let alloc = rt.alloc();
+    let request = Request {
+        name: Some(RepoName::read(alloc, "lib/a")?),
+        call: Call::Tags {
+            n: None,
+            last: None,
+        },
+        hop: false,
+    };
+    let page =
+        r#"HTTP/1.1 200 OK|Link: </v2/lib/a/tags/list?n=2&last=b>; rel="next"|Content-Type: application/json|Content-Length: 33||{"name":"lib/a","tags":["A","b"]}"#;
+    let bytes = wire(alloc, page)?;
+    assert!(rt; is_page(alloc, &request, bytes.as_slice()));
     Ok(())
 }
 
