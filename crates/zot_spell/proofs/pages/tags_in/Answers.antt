@@ -1,4 +1,4 @@
-use Rattle.std.proofs.Common.{◌≡◌, List, ℕ, sym, subst}
+use Rattle.std.proofs.Common.{List, ℕ, sym, subst}
 use Rattle.zot_spell.proofs.PageLemmas.{AreLeft, first_of, left_more, left_none, none_of}
 use Rattle.zot_spell.proofs.pages.tags_in.Goals as goal
 

@@ -1,4 +1,4 @@
-use Rattle.std.proofs.Common.{◌≡◌, ◌∙◌, ◌++◌, ◌<◌, ◌^◌, List, ℕ, length, Some, sym, ap, arith}
+use Rattle.std.proofs.Common.{◌≡◌, ◌∙◌, ◌++◌, List, ℕ, length, Some, sym, ap, arith}
 use Rattle.std.proofs.lemmas.List.{append_assoc}
 use Rattle.zot_spell.proofs.FoundLemmas.{body_place, body_short, body_small}
 use Rattle.zot_spell.specs.Fields.{closing_field, crlf}

@@ -1,4 +1,4 @@
-use Rattle.std.proofs.Common.{◌≡◌, ◌∙◌, ap, sym, subst}
+use Rattle.std.proofs.Common.{◌∙◌, ap, sym, subst}
 use Rattle.std.specs.Prelude.{IsUtf8}
 use Rattle.zot_media.proofs.MediaLemmas.{named_text}
 use Rattle.zot_media.specs.Media.{media_named}

@@ -1,4 +1,4 @@
-use Rattle.std.proofs.Common.{◌≡◌, ◌∙◌, ◌++◌, [], List, ℕ, Bool, false, None, sym, ap, arith}
+use Rattle.std.proofs.Common.{◌≡◌, ◌∙◌, ◌++◌, [], List, ℕ, false, None, sym, ap, arith}
 use Rattle.std.specs.Prelude.{codes}
 use Rattle.zot_digest.specs.Digest.{digest_text}
 use Rattle.zot_model.specs.declared.reply.Reply.{Reply}

@@ -1,10 +1,10 @@
-use Rattle.std.proofs.Common.{◌≡◌, ◌∙◌, ◌++◌, [], List, ℕ, Bool, true, false, Option, Some, length, sym, ap, arith}
+use Rattle.std.proofs.Common.{◌≡◌, ◌∙◌, ◌++◌, List, ℕ, false, Some, length, sym, ap, arith}
 use Rattle.zot_media.specs.declared.media.Media.{Media}
 use Rattle.zot_media.specs.Media.{media_text}
 use Rattle.zot_model.specs.declared.reply.Reply.{Reply}
 use Rattle.zot_model.specs.declared.reply.Reply.TheVariants as replies
-use Rattle.zot_spell.proofs.FoundLemmas.{ap₃, finds_ok, for_manifest, manifest_bytes, named_behind_start, named_size_behind_start, none_copied, size_behind_start, some_copied}
-use Rattle.zot_spell.specs.Fields.{closing_field, crlf, digest_field, status_line}
+use Rattle.zot_spell.proofs.FoundLemmas.{ap₃, finds_ok, for_manifest, manifest_bytes, named_behind_start, none_copied, size_behind_start, some_copied}
+use Rattle.zot_spell.specs.Fields.{digest_field, status_line}
 use Rattle.zot_spell.specs.Reading.{Differs, IsManifest, IsReal}
 use Rattle.zot_spell.specs.Spelling.{body_lines, parts_of, spelled}
 use Rattle.zot_spell.proofs.proposed.read_manifest.Goals as goal

@@ -1,13 +1,12 @@
-use Rattle.std.proofs.Common.{◌≡◌, ◌∙◌, ◌+◌, ◌-◌, ◌<◌, ◌^◌, ◌++◌, ◌∷◌, [], List, ℕ, Bool, false, None, refl, sym, ap, arith}
+use Rattle.std.proofs.Common.{◌≡◌, ◌∙◌, ◌+◌, ◌-◌, ◌<◌, ◌^◌, ◌++◌, ◌∷◌, List, ℕ, refl, sym, ap, arith}
 use Rattle.std.specs.Fmt.{decimal}
 use Rattle.std.specs.Prelude.{codes}
 use Rattle.zot_model.specs.declared.reply.Reply.{Reply}
-use Rattle.zot_model.specs.declared.reply.Reply.TheVariants as replies
 use Rattle.zot_names.specs.Upload.{upload_text}
 use Rattle.zot_spell.proofs.FoundLemmas.{behind_refusal, finds_ok, for_range_refusal, range_refusal, range_refusal_alike, refusal_id_bytes, refusal_range_bytes}
 use Rattle.zot_spell.specs.Fields.{crlf, location_field, range_field, status_line, upload_field, upload_place}
 use Rattle.zot_spell.specs.Reading.{Differs, IsRangeRefusal, IsReal}
-use Rattle.zot_spell.specs.Spelling.{body_lines, parts_of, spelled}
+use Rattle.zot_spell.specs.Spelling.{parts_of, spelled}
 use Rattle.zot_spell.proofs.proposed.read_range_refusal.Goals as goal
 
 pub returns-in_default : goal.returns-in_default

@@ -1,11 +1,11 @@
-use Rattle.std.proofs.Common.{◌≡◌, ◌∙◌, ◌++◌, [], List, ℕ, Bool, false, Option, Some, None, sym, ap, ap₂, arith}
+use Rattle.std.proofs.Common.{◌≡◌, ◌∙◌, ◌++◌, [], List, ℕ, false, Some, None, sym, ap, ap₂, arith}
 use Rattle.std.specs.Prelude.{codes}
 use Rattle.zot_digest.specs.Digest.{digest_text}
 use Rattle.zot_model.specs.declared.reply.Reply.{Reply}
 use Rattle.zot_model.specs.declared.reply.Reply.TheVariants as replies
-use Rattle.zot_spell.proofs.FoundLemmas.{behind_manifest, finds_ok, for_with, for_without, manifest_made_bytes, subject_bytes}
+use Rattle.zot_spell.proofs.FoundLemmas.{behind_manifest, finds_ok, for_with, manifest_made_bytes, subject_bytes}
 use Rattle.zot_spell.specs.Fields.{crlf, digest_field, location_field, manifest_place, status_line}
-use Rattle.zot_spell.specs.Reading.{Differs, IsReal, IsWithSubject, IsWithoutSubject}
+use Rattle.zot_spell.specs.Reading.{Differs, IsReal, IsWithSubject}
 use Rattle.zot_spell.specs.Spelling.{body_lines, parts_of, spelled}
 use Rattle.zot_spell.proofs.proposed.read_with_subject.Goals as goal
 

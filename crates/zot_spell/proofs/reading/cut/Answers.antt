@@ -1,4 +1,4 @@
-use Rattle.std.proofs.Common.{◌≡◌, ◌∙◌, ◌++◌, ◌∷◌, ◌==◌, List, ℕ, length, length-append, take, drop, ap, ap₂, arith}
+use Rattle.std.proofs.Common.{◌≡◌, ◌∙◌, ◌∷◌, ◌==◌, List, ℕ, length, length-append, take, drop, ap, ap₂, arith}
 use Rattle.std.specs.List.{before_first}
 use Rattle.std.proofs.Math.Seq.{take-append_seam}
 use Rattle.zot_spell.proofs.PageLemmas.{behind_end, drop_seam, free_all}

@@ -1,4 +1,4 @@
-use Rattle.std.proofs.Common.{◌≡◌, subst, sym}
+use Rattle.std.proofs.Common.{subst, sym}
 use Rattle.std.specs.Prelude.{IsUtf8}
 use Rattle.zot_spell.proofs.ReadingLemmas.{id_is_text}
 use Rattle.zot_spell.proofs.reading.read_id.Goals as goal
