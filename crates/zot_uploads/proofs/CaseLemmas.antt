@@ -9,7 +9,7 @@ use Rattle.std.proofs.lemmas.Slice.Eq.{bytes_eq-Decides}
 use Rattle.zot_digest.specs.Digest.{IsSound, is_sound}
 use Rattle.zot_model.specs.declared.span.Span.{Span}
 use Rattle.zot_uploads.proofs.NumberMapLemmas.{tied}
-use Rattle.zot_uploads.specs.Cases.{GoesOn, HasRoom, IsBehind, KeepsLimit, Refuses, RefusesWhole, open_limit, upload_limit}
+use Rattle.zot_uploads.specs.Cases.{GoesOn, HasRoom, IsNextRange, KeepsLimit, Refuses, RefusesWhole, open_limit, upload_limit}
 use Rattle.zot_uploads.specs.Table.{NumberMap, OpenUpload, UploadTable, longer, put_behind, with_new, with_piece, without}
 use Rattle.zot_uploads.specs.declared.upload_error.UploadError.{UploadError}
 use Rattle.zot_uploads.specs.declared.upload_error.UploadError.TheVariants as errors
@@ -18,7 +18,7 @@ use Rattle.zot_uploads.specs.declared.upload_error.UploadError.TheVariants as er
 abbrev pub Decided : Type 0 → Type 0
 Decided P = P ⊎ (¬ P)
 
-goes_at : (span : Span) (before size : ℕ) → (span.start ≡ before) ⊎ (span.start ≢ before) → (span.end + 1 ≡ span.start + size) ⊎ (span.end + 1 ≢ span.start + size) → Decided (IsBehind span before size)
+goes_at : (span : Span) (before size : ℕ) → (span.start ≡ before) ⊎ (span.start ≢ before) → (span.end + 1 ≡ span.start + size) ⊎ (span.end + 1 ≢ span.start + size) → Decided (IsNextRange span before size)
 goes_at span before size (inl s) (inl e) = inl (record { starts = s; ends = e })
 goes_at span before size (inl s) (inr e) = inr (λ h. e h.ends)
 goes_at span before size (inr s) e = inr (λ h. s h.starts)

@@ -20,13 +20,13 @@ unfoldable pub upload_limit : ℕ
 upload_limit = 67_108_864
 
 -- a range of places has a piece of so many bytes behind so many others: it starts at the place behind these, and has a place for each byte
-pub record IsBehind (span : Span) (before size : ℕ) : Type 0 where
+pub record IsNextRange (span : Span) (before size : ℕ) : Type 0 where
   pub starts : span.start ≡ before
   pub ends : span.end + 1 ≡ span.start + size
 
 -- a piece goes on where an upload ends; one that comes without a range always does
 abbrev pub GoesOn : Option Span → OpenUpload → List ℕ → Type 0
-GoesOn range upload piece = IfSome range (λ span. IsBehind span (length upload.bytes) (length piece))
+GoesOn range upload piece = IfSome range (λ span. IsNextRange span (length upload.bytes) (length piece))
 
 -- an upload keeps its limit with a piece behind its bytes
 abbrev pub KeepsLimit : OpenUpload → List ℕ → Type 0

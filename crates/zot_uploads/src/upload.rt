@@ -1,7 +1,7 @@
 //! An open upload.
 ghost use Rattle.std.specs.Prelude.{◌≡◌, ◌≢◌, ◌↔◌, ◌+◌, ◌-◌, ◌≤◌, ◌++◌, [], length, Some, IfOk, IfErr, IfSome, IsTrue, OnOk, OnErr};
 ghost use Rattle.zot_digest.specs.Digest.{IsSound};
-ghost use Rattle.zot_uploads.specs.Cases.{IsBehind, IsTaken, IsWhole, Refuses, RefusesWhole};
+ghost use Rattle.zot_uploads.specs.Cases.{IsNextRange, IsTaken, IsWhole, Refuses, RefusesWhole};
 ghost use Rattle.zot_uploads.specs.Table.{is_aged, longer};
 
 use crate::upload_error::UploadError;
@@ -126,7 +126,7 @@ impl Upload {
 // Whether a range, where there is one, begins behind so many bytes and ends where there are so many.
 fn goes_on(range: Option<Span>, before: u64, after: u64) -> bool
     requires { before ≤ after }
-    ensures { IsTrue result ↔ IfSome range (λ span. IsBehind span before (after - before)) }
+    ensures { IsTrue result ↔ IfSome range (λ span. IsNextRange span before (after - before)) }
 {
     match range {
         Some(span) => span.start == before && span.end < after && span.end + 1 == after,
