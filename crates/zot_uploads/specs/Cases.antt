@@ -19,7 +19,8 @@ last_id = 18_446_744_073_709_551_615
 unfoldable pub upload_limit : ℕ
 upload_limit = 67_108_864
 
--- a range of places has a piece of so many bytes behind so many others: it starts at the place behind these, and has a place for each byte
+-- the range of a piece of so many bytes that stands behind so many others: it starts at the place behind these, and has a place for each byte.
+-- Places are counted from 0, and the last one belongs to the range
 pub record IsNextRange (span : Span) (before size : ℕ) : Type 0 where
   pub starts : span.start ≡ before
   pub ends : span.end + 1 ≡ span.start + size
