@@ -1,6 +1,5 @@
 -- Empty lines alone are as long as the empty lines in front.
-use Rattle.std.proofs.Common.{◌≡◌, ℕ, suc, eqb, Bool, true, false, not, ◌&&◌, List, [], ◌∷◌, length, refl, sym, ap, ◌∙◌, ◌⊎◌, inl, inr, arith}
-use Rattle.std.specs.Prelude.{if◌then◌else◌, ◌==◌}
+use Rattle.std.proofs.Common.{◌≡◌, ℕ, suc, eqb, Bool, true, false, List, [], ◌∷◌, length, refl, sym, ◌∙◌, ◌⊎◌, inl, inr, arith}
 use Rattle.std.proofs.lemmas.Bool.Decides.{nat_tests}
 use Rattle.zot_head.specs.Lines.{blank_len}
 use Rattle.zot_session.specs.Messages.{blank_after}

@@ -1,17 +1,16 @@
 -- A body in chunks, piece by piece.
 use Rattle.std.specs.declared.alloc.Global.{Global}
-use Rattle.std.proofs.Common.{◌≡◌, ◌⊎◌, ℕ, ◌+◌, ◌<◌, ◌≤◌, Bool, true, false, List, [], ◌++◌, length, take, drop, Option, inl, inr, refl, sym, ap, ◌∙◌, subst, arith}
+use Rattle.std.proofs.Common.{◌≡◌, ◌⊎◌, ℕ, true, false, List, [], ◌++◌, length, take, drop, Option, inl, inr, sym, ap, ◌∙◌, arith}
 use Rattle.std.specs.Prelude.{Vec, Some}
-use Rattle.std.proofs.lemmas.List.{append_assoc, append-nil, drop_all, take-append-drop}
+use Rattle.std.proofs.lemmas.List.{append_assoc, append-nil, drop_all}
 use Rattle.zot_head.specs.declared.chunk_error.ChunkError.{ChunkError}
 use Rattle.zot_head.specs.declared.chunk_error.ChunkError.TheVariants as errors
 use Rattle.zot_head.specs.declared.fed.Fed.{Fed}
 use Rattle.zot_head.specs.declared.framing.Framing.TheVariants as framings
-use Rattle.zot_head.specs.declared.head.Head.{Head}
 use Rattle.zot_head.specs.Chunked.{Body as ChunkBody, Broken, Unfinished, Whole, behind, chunked}
 use Rattle.zot_head.specs.Front.{Refusal, refusal_of, with_chunks}
 use Rattle.zot_head.specs.Front as fronts
-use Rattle.zot_head.specs.Progress.{Advances, Answers, AnswersErr, AnswersOk, Progress, Stops, reading}
+use Rattle.zot_head.specs.Progress.{Advances, AnswersErr, AnswersOk, Progress, Stops, reading}
 use Rattle.zot_head.proofs.ProgressLemmas.{behind-append, behind-nil}
 use Rattle.zot_model.specs.declared.reply.Reply.{Reply}
 use Rattle.zot_model.specs.Valid.{body_limit}

@@ -12,8 +12,8 @@ use Rattle.zot_outside.specs.Streams.{IsOver, Takes}
 use Rattle.zot_session.specs.declared.end.End.{End}
 use Rattle.zot_session.specs.declared.end.End.TheVariants as ends
 use Rattle.zot_session.specs.Ends.{EndsAs, EndsAt, HasFailed, end_over}
-use Rattle.zot_session.specs.Messages.{IsPartial, IsRefused, Message, Messages, Stands, is_blank, status_of}
-use Rattle.zot_session.specs.Session.{Ending, EndsBehind, EndsWith, Exchange, Served, StayOpen, behind, closes, message_of, with_last}
+use Rattle.zot_session.specs.Messages.{IsPartial, Message, Messages, is_blank, status_of}
+use Rattle.zot_session.specs.Session.{Ending, EndsBehind, EndsWith, Exchange, Served, StayOpen, behind, message_of, with_last}
 use Rattle.zot_session.specs.Waiting.{budget}
 use Rattle.zot_session.proofs.MessageLemmas.{Messages-last, Messages-more, map-push, refused_more, stands_more}
 

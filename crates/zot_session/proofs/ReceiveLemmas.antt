@@ -1,7 +1,7 @@
 -- How the parts of a message that were received come together.
 use Rattle.std.specs.declared.alloc.Global.{Global}
 use Rattle.std.proofs.Common.{◌≡◌, ◌≢◌, min, ◌⊎◌, ℕ, ◌+◌, ◌-◌, ◌<◌, ◌≤◌, ltb, Bool, true, false, List, [], ◌++◌, length, take, drop, Option, inl, inr, refl, sym, ap, ◌∙◌, subst, arith}
-use Rattle.std.specs.Prelude.{if◌then◌else◌, Vec, Result, Ok, Err}
+use Rattle.std.specs.Prelude.{if◌then◌else◌, Vec, Ok, Err}
 use Rattle.std.proofs.lemmas.Bool.Decides.{nat_tests}
 use Rattle.std.proofs.lemmas.List.{append_assoc, append-nil, drop_all, drop_at, length-append, length-take, take-append-drop, take_at}
 use Rattle.zot_head.specs.declared.framing.Framing.TheVariants as framings
@@ -19,9 +19,9 @@ use Rattle.zot_session.specs.declared.end.End.TheVariants as ends
 use Rattle.zot_session.specs.declared.heading.Heading.{Heading}
 use Rattle.zot_session.specs.declared.heading.Heading.TheVariants as headings
 use Rattle.zot_session.specs.declared.receiving.Received.TheVariants as received
-use Rattle.zot_session.specs.Messages.{IsPartial, IsRead, IsRefused, Owes, Stands, continue_of, continue_text, is_blank, refused_as}
+use Rattle.zot_session.specs.Messages.{IsPartial, IsRead, IsRefused, Owes, continue_of, continue_text, is_blank, refused_as}
 use Rattle.zot_session.specs.Receiving.{Bodies, BodyEnds, BodyIs, Came, CutEnds, Fetches, HeadEnds, HeadIs, Heads, IsHeading, OverEnds, ReceiveEnds, Receives, SourceEnds}
-use Rattle.zot_session.specs.Session.{EndsBehind, Says, WritesPart, owed}
+use Rattle.zot_session.specs.Session.{EndsBehind, WritesPart, owed}
 use Rattle.zot_session.specs.Waiting.{TakesPiece, Waiting, budget}
 use Rattle.zot_session.proofs.HeadingLemmas.{heading_front, heading_owes, large_owes, large_refused, not_blank}
 

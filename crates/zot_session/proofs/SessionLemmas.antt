@@ -1,6 +1,6 @@
 -- A session so far, turn by turn.
-use Rattle.std.proofs.Common.{◌≡◌, ℕ, ◌+◌, ◌-◌, ◌*◌, ◌<◌, ◌≤◌, List, [], ◌∷◌, ◌++◌, length, map, Option, refl, sym, ap, ◌∙◌, subst, arith}
-use Rattle.std.proofs.lemmas.List.{append-nil, length-append}
+use Rattle.std.proofs.Common.{◌≡◌, ℕ, ◌+◌, ◌-◌, ◌*◌, ◌<◌, ◌≤◌, List, [], ◌∷◌, ◌++◌, length, map, Option, refl, sym, subst, arith}
+use Rattle.std.proofs.lemmas.List.{length-append}
 use Rattle.std.specs.List.{AllByRecursion}
 use Rattle.zot_model.specs.declared.reply.Reply.{Reply}
 use Rattle.zot_model.specs.declared.request.Request.{Request}
@@ -8,12 +8,12 @@ use Rattle.zot_outside.specs.Streams.{Appends, Takes}
 use Rattle.zot_outside.proofs.StreamLemmas.{Appends-append, Appends-nil, Takes-append, Takes-nil}
 use Rattle.zot_session.specs.declared.end.End.{End}
 use Rattle.zot_session.specs.declared.end.End.TheVariants as ends
-use Rattle.zot_session.specs.Messages.{Message, Messages, Stands}
-use Rattle.zot_session.specs.Session.{Conducts, Ending, EndsBehind, EndsWith, Exchange, IsRouted, Served, StayOpen, answered, behind, closes, declined, message_of, output, spelled, with_last}
+use Rattle.zot_session.specs.Messages.{Messages}
+use Rattle.zot_session.specs.Session.{Conducts, EndsBehind, EndsWith, Exchange, IsRouted, Served, StayOpen, answered, behind, closes, declined, message_of, output, spelled, with_last}
 use Rattle.zot_session.specs.Turn.{AnswersFront, GoesOn, Stop, Stops, receiving, replying}
 use Rattle.zot_session.specs.Waiting.{Waiting, budget}
 use Rattle.zot_session.proofs.MessageLemmas.{Messages-more, Messages-push, all_push, map-push, output-push, stands_size}
-use Rattle.std.proofs.Common.{inl, inr, false}
+use Rattle.std.proofs.Common.{inl, false}
 
 -- a session so far: what was taken is the exchanges' messages and what waits, all their replies were written, and none of them closes the connection
 pub record SoFar {A : Type 0} (answers : A → Request → Reply → A → Type 0) (old now : A) (left_before left_now held_before held_now : Option (List ℕ)) (waits : Waiting) : Type 0 where

@@ -1,5 +1,5 @@
 -- What a turn of a session does.
-use Rattle.std.proofs.Common.{◌≡◌, ℕ, ◌+◌, ◌≤◌, Bool, true, false, List, [], ◌∷◌, ◌++◌, length, Option, Some, None, Ok, Err, refl, sym, ap, ◌∙◌, subst, inl, inr}
+use Rattle.std.proofs.Common.{◌≡◌, ℕ, ◌+◌, ◌≤◌, Bool, true, false, List, [], ◌++◌, length, Option, None, refl, sym, ap, ◌∙◌, subst, inr}
 use Rattle.std.specs.declared.alloc.Global.{Global}
 use Rattle.std.specs.Prelude.{Vec}
 use Rattle.std.proofs.lemmas.List.{append_assoc, append-nil}
@@ -9,8 +9,8 @@ use Rattle.zot_head.specs.Front as fronts
 use Rattle.zot_model.specs.declared.reply.Reply.{Reply}
 use Rattle.zot_model.specs.declared.request.Request.{Request}
 use Rattle.zot_model.specs.Fits.{Declines}
-use Rattle.zot_outside.specs.Streams.{Appends, Takes}
-use Rattle.zot_outside.proofs.StreamLemmas.{Appends-append, Appends-nil}
+use Rattle.zot_outside.specs.Streams.{Appends}
+use Rattle.zot_outside.proofs.StreamLemmas.{Appends-append}
 use Rattle.zot_session.specs.declared.end.End.{End}
 use Rattle.zot_session.specs.declared.end.End.TheVariants as ends
 use Rattle.zot_session.specs.declared.receiving.Received.TheVariants as received
@@ -19,7 +19,7 @@ use Rattle.zot_session.specs.declared.sending.Sent.TheVariants as sents
 use Rattle.zot_session.specs.Messages.{IsRefused, Message, Owes, Stands, continue_of, refused_as, status_of}
 use Rattle.zot_session.specs.Receiving.{ReceiveEnds, Receives}
 use Rattle.zot_session.specs.Sending.{Sends}
-use Rattle.zot_session.specs.Session.{EndsBehind, EndsWith, Exchange, IsPart, Says, WritesPart, closes, closing_bytes, message_of, owed, refused, reply_of, spelled}
+use Rattle.zot_session.specs.Session.{EndsBehind, Exchange, closing_bytes, message_of, owed, refused, reply_of, spelled}
 use Rattle.zot_session.specs.Turn.{AnswersFront, GoesOn, RefusalEnds, Replies, Stop, receiving, replying, status_in}
 use Rattle.zot_session.specs.Waiting.{Waiting, budget}
 use Rattle.zot_spell.specs.Spelling.{reply_bytes}

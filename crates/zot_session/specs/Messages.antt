@@ -1,5 +1,5 @@
 -- The messages of a connection: what stands at the front of its bytes, one behind another (RFC 9112, sections 2.1 and 9.3).
-use Rattle.std.specs.Prelude.{◌≡◌, ⊤, ℕ, ◌≤◌, ◌==◌, ◌&&◌, not, Bool, true, false, if◌then◌else◌, List, [], ◌∷◌, length, take, ◌⊎◌, codes}
+use Rattle.std.specs.Prelude.{◌≡◌, ⊤, ℕ, ◌≤◌, ◌==◌, ◌&&◌, not, Bool, true, false, if◌then◌else◌, List, [], ◌∷◌, take, ◌⊎◌, codes}
 use Rattle.zot_head.specs.declared.framing.Framing.{Framing}
 use Rattle.zot_head.specs.declared.framing.Framing.TheVariants as framings
 use Rattle.zot_head.specs.declared.head.Head.{Head}

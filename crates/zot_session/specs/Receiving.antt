@@ -2,7 +2,6 @@
 use Rattle.std.specs.Prelude.{◌≡◌, ⊤, ℕ, ◌+◌, ◌<◌, ◌≤◌, Bool, true, false, List, [], ◌++◌, length, Option, Some, None, Result, Ok, Err, ◌⊎◌}
 use Rattle.zot_head.specs.declared.head.Head.{Head}
 use Rattle.zot_head.specs.declared.framing.Framing.{Framing}
-use Rattle.zot_head.specs.Chunked.{Broken, Unfinished, Whole, chunked}
 use Rattle.zot_head.specs.declared.chunk_error.ChunkError.{ChunkError}
 use Rattle.zot_head.specs.declared.chunk_error.ChunkError.TheVariants as errors
 use Rattle.zot_head.specs.Front.{Front, IsHead, Refusal, refusal_of, with_body}
@@ -21,7 +20,7 @@ use Rattle.zot_session.specs.declared.heading.Heading.TheVariants as headings
 use Rattle.zot_session.specs.declared.receiving.Received.{Received}
 use Rattle.zot_session.specs.declared.receiving.Received.TheVariants as received
 use Rattle.zot_session.specs.Messages.{IsPartial, IsRefused, Owes, Stands, continue_of, is_blank, refused_as}
-use Rattle.zot_session.specs.Session.{EndsBehind, WritesPart}
+use Rattle.zot_session.specs.Session.{EndsBehind}
 use Rattle.zot_session.specs.Waiting.{TakesPiece, Waiting, budget}
 
 -- pieces came: they were taken from the source, and wait behind what waited, of which some bytes were passed over

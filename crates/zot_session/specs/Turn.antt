@@ -1,5 +1,5 @@
 -- One turn of a session: a message is received and answered, or the connection ends.
-use Rattle.std.specs.Prelude.{◌≡◌, ℕ, ◌+◌, ◌≤◌, Bool, true, false, if◌then◌else◌, List, [], ◌∷◌, ◌++◌, length, Option, Some, None, Result, Ok, Err}
+use Rattle.std.specs.Prelude.{◌≡◌, ℕ, ◌+◌, ◌≤◌, true, false, List, [], ◌∷◌, ◌++◌, length, Option, Some, None, Result, Ok, Err}
 use Rattle.zot_head.specs.declared.head.Head.{Head}
 use Rattle.zot_model.specs.declared.reply.Reply.{Reply}
 use Rattle.zot_model.specs.declared.reply.Reply.TheVariants.{Refused}
@@ -9,7 +9,6 @@ use Rattle.zot_outside.specs.Streams.{Appends, Takes}
 use Rattle.zot_session.specs.declared.end.End.{End}
 use Rattle.zot_session.specs.declared.end.End.TheVariants as ends
 use Rattle.zot_session.specs.declared.sending.Sent.{Sent}
-use Rattle.zot_session.specs.declared.sending.Sent.TheVariants.{Fault, NoMemory, Whole}
 use Rattle.zot_session.specs.Messages.{Message, Stands}
 use Rattle.zot_session.specs.Sending.{SendFaults, Sends}
 use Rattle.zot_session.specs.Session.{WritesPart, Conducts, EndsBehind, EndsWith, Exchange, IsRouted, closes, message_of, reply_of, spelled}

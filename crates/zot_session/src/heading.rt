@@ -1,5 +1,5 @@
 //! The head of the next message, as its bytes come.
-ghost use Rattle.std.specs.Prelude.{◌≡◌, ⊤, ℕ, ◌≤◌, [], length, IfOk, IfErr, true, false};
+ghost use Rattle.std.specs.Prelude.{◌≡◌, IfOk, IfErr};
 ghost use Rattle.zot_head.specs.Limits.{head_limit};
 ghost use Rattle.zot_head.specs.Lines.{Ends, extent, head_end};
 ghost use Rattle.zot_model.specs.Reply.{refusal};

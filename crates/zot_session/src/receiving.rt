@@ -1,5 +1,5 @@
 //! The next message of a connection, as its bytes come.
-ghost use Rattle.std.specs.Prelude.{◌≡◌, ◌↔◌, IfOk, IfErr, IsTrue};
+ghost use Rattle.std.specs.Prelude.{◌↔◌, IfOk, IfErr, IsTrue};
 ghost use Rattle.zot_session.specs.Messages.{IsRead};
 ghost use Rattle.zot_session.specs.Receiving.{ReceiveEnds, Receives};
 ghost use Rattle.zot_session.specs.Turn.{ReadCauseOf, WriteCauseOf};

@@ -1,11 +1,10 @@
 //! A session: the requests of one connection, answered in order.
-ghost use Rattle.std.specs.Prelude.{◌≡◌, ◌≢◌, ◌≤◌, IfNone, IfSome, IfErr, IfOk, length, Some};
+ghost use Rattle.std.specs.Prelude.{◌≡◌, ◌≢◌, ◌≤◌, IfNone, IfSome, length, Some};
 ghost use Rattle.zot_model.specs.Fits.{Declines};
 ghost use Rattle.zot_model.specs.Valid.{body_limit};
 ghost use Rattle.zot_outside.specs.Faults.{Rose};
 ghost use Rattle.zot_session.specs.declared.end.End.TheVariants as ends;
 ghost use Rattle.zot_session.specs.Ends.{EndsAs, HasFailed};
-ghost use Rattle.zot_session.specs.Sending.{SendFaults, Sends};
 ghost use Rattle.zot_session.specs.Session.{Conducts, Served, is_head};
 ghost use Rattle.zot_session.specs.Turn.{Answered, GoesOn, ReadCause, RefusalEnds, SentFaults, Stop, WriteCause, status_in};
 

@@ -1,5 +1,5 @@
 //! The program's lines on notes.
-ghost use Rattle.std.specs.Prelude.{◌≡◌, [], ◌∷◌, ◌++◌, OnOk, OnErr, decimal};
+ghost use Rattle.std.specs.Prelude.{[], ◌∷◌, ◌++◌, OnOk, OnErr, decimal};
 ghost use Rattle.zot_outside.specs.Faults.{HasCause};
 ghost use Rattle.zot_outside.specs.Streams.{Appends};
 ghost use Rattle.zot_session.specs.Session.{WritesPart};

@@ -196,12 +196,15 @@ fn requests(rt: HostRuntime) -> Result<(), Fail> {
         let routed = routed(alloc, line, b"ab")?;
         assert!(rt; is_written(alloc, &routed, want.as_str())?, "{line}");
     }
-    let base = Routed::Request(Request {
-        name: None,
-        call: Call::Base,
-        hop: true,
-    });
-    assert!(rt; routed(alloc, "HEAD /v2|x-zot-Cluster-Hop-Count: 7", b"")? == base);
+    let base = routed(alloc, "HEAD /v2|x-zot-Cluster-Hop-Count: 7", b"")?;
+    let want = "Request(Request { name: None, call: Base, hop: true })";
+    assert!(rt; is_written(alloc, &base, want)?);
+    Ok(())
+}
+
+#[test]
+fn longest_manifest(rt: HostRuntime) -> Result<(), Fail> {
+    let alloc = rt.alloc();
     let longest = vec![in alloc; b' '; 4_194_304]?;
     let routed = routed(alloc, "PUT /v2/a/manifests/x", longest.as_slice())?;
     assert!(rt; matches!(&routed, Routed::Request(_)));

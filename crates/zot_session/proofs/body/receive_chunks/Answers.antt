@@ -1,4 +1,4 @@
-use Rattle.std.proofs.Common.{◌≡◌, ℕ, ◌-◌, List, [], ◌++◌, Ok, Err, refl, sym, ap, ◌∙◌, subst}
+use Rattle.std.proofs.Common.{ℕ, ◌-◌, [], ◌++◌, Ok, Err, refl, sym, ap, ◌∙◌, subst}
 use Rattle.zot_head.specs.declared.framing.Framing.TheVariants as framings
 use Rattle.zot_head.specs.Progress.{Feeds}
 use Rattle.zot_session.proofs.ChunkLemmas.{ReadSoFar, chunks_broken, chunks_passed, chunks_whole, read_more, read_none}

@@ -1,6 +1,5 @@
-use Rattle.std.proofs.Common.{◌≡◌, ℕ, ◌-◌, ◌≤◌, List, ◌++◌, length, min, take, refl, sym, ap, ◌∙◌, subst}
+use Rattle.std.proofs.Common.{◌≡◌, ℕ, ◌-◌, ◌++◌, length, min, take, sym, ap, ◌∙◌}
 use Rattle.zot_head.specs.declared.framing.Framing.TheVariants as framings
-use Rattle.zot_session.specs.Waiting.{Waiting}
 use Rattle.zot_session.proofs.ReceiveLemmas.{body_failed, body_torn, came_piece, fetched, fetched_none, length_done, length_left, length_passed, length_short}
 use Rattle.zot_session.proofs.body.receive_length.Goals as goal
 

@@ -1,6 +1,5 @@
-use Rattle.std.proofs.Common.{◌≡◌, [], ◌++◌, refl, ◌∙◌, subst}
+use Rattle.std.proofs.Common.{[], ◌++◌, refl, ◌∙◌, subst}
 use Rattle.zot_head.specs.Front as fronts
-use Rattle.zot_model.specs.Reply.{refusal}
 use Rattle.zot_session.specs.Messages.{IsPartial, IsRefused, Owes, refused_as}
 use Rattle.zot_session.specs.Receiving.{OverEnds}
 use Rattle.zot_session.proofs.HeadingLemmas.{found_more, found_too_long}

@@ -1,4 +1,4 @@
-use Rattle.std.proofs.Common.{◌≡◌, refl, subst}
+use Rattle.std.proofs.Common.{refl, subst}
 use Rattle.zot_session.specs.Receiving.{Bodies, Heads}
 use Rattle.zot_session.proofs.ReceiveLemmas.{ends_in_body, ends_in_continue, ends_in_head, refused_for_size, refused_in_body, refused_in_head, whole_message}
 use Rattle.zot_session.proofs.receiving.receive.Goals as goal

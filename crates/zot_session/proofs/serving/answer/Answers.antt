@@ -1,4 +1,4 @@
-use Rattle.std.proofs.Common.{◌≡◌, Some, None, refl, subst}
+use Rattle.std.proofs.Common.{Some, None, refl, subst}
 use Rattle.zot_route.specs.Routes.{Routes}
 use Rattle.zot_session.specs.Session.{answered, declined, is_head}
 use Rattle.zot_session.proofs.TurnLemmas.{sends_head}

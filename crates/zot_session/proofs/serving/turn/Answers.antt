@@ -1,4 +1,4 @@
-use Rattle.std.proofs.Common.{◌≡◌, length, refl, subst}
+use Rattle.std.proofs.Common.{refl, subst}
 use Rattle.zot_session.specs.Receiving.{Receives}
 use Rattle.zot_session.specs.Turn.{Replies}
 use Rattle.zot_session.proofs.HeadingLemmas.{body_within}

@@ -1,0 +1,3 @@
+pub mod NumberMapLemmas
+pub mod TableLemmas
+pub mod CaseLemmas
