@@ -1,8 +1,10 @@
 pub mod Fits
 pub mod History
+pub mod Pieces
 pub mod Plain
 pub mod Reply
 pub mod State
+pub mod Uploads
 pub mod Valid
 pub use Rattle.zot_digest.specs.ByteMap
 pub use Rattle.zot_digest.specs.Digest

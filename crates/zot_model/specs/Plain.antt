@@ -1,15 +1,19 @@
 -- What a plain registry answers to a request on a repository, case by case.
-use Rattle.std.specs.Prelude.{◌≡◌, ℕ, true, List, length, Option, Some, None, if◌then◌else◌, ◌⊎◌}
+use Rattle.std.specs.Prelude.{◌≡◌, ℕ, ◌+◌, true, List, ◌++◌, length, Option, Some, None, if◌then◌else◌, ◌⊎◌}
 use Rattle.std.specs.FinMap as map
 use Rattle.zot_digest.specs.Digest.{is_sound}
 use Rattle.zot_model.specs.declared.call.Call.{Call}
-use Rattle.zot_model.specs.declared.call.Call.TheVariants.{GetBlob, HeadBlob, Post}
-use Rattle.zot_model.specs.declared.code.Code.TheVariants.{BlobUnknown, DigestInvalid}
+use Rattle.zot_model.specs.declared.call.Call.TheVariants.{Finish, GetBlob, HeadBlob, Patch, Post, UploadState}
+use Rattle.zot_model.specs.declared.code.Code.TheVariants.{BlobUnknown, BlobUploadInvalid, BlobUploadUnknown, DigestInvalid, SizeInvalid, TooManyRequests}
+use Rattle.zot_model.specs.declared.detail.Detail.TheVariants as details
 use Rattle.zot_model.specs.declared.reply.Reply.{Reply}
-use Rattle.zot_model.specs.declared.reply.Reply.TheVariants.{Blob, BlobHead, BlobMade}
+use Rattle.zot_model.specs.declared.reply.Reply.TheVariants.{Blob, BlobHead, BlobMade, Refused, Session}
+use Rattle.zot_model.specs.declared.span.Span.{Span}
 use Rattle.zot_model.specs.declared.stored.Stored.{Stored}
+use Rattle.zot_model.specs.Pieces.{goes_on, keeps_limit}
 use Rattle.zot_model.specs.Reply.{no_memory, not_built, refusal}
 use Rattle.zot_model.specs.State.{RepoState}
+use Rattle.zot_model.specs.Uploads.{OpenUpload, UploadTable, is_full, with_new, with_piece, without}
 
 -- what a request leads to: the reply, and the repository after it
 pub record Outcome : Type 0 where
@@ -18,7 +22,11 @@ pub record Outcome : Type 0 where
 
 -- the repository with a blob that arrives at the moment, which makes it known
 abbrev pub with_blob : ℕ → RepoState → List ℕ → List ℕ → RepoState
-with_blob moment repo digest bytes = record { known = true; blobs = map.insert repo.blobs digest (record { bytes = bytes; arrived = moment }) }
+with_blob moment repo digest bytes = record { known = true; blobs = map.insert repo.blobs digest (record { bytes = bytes; arrived = moment }); sessions = repo.sessions }
+
+-- the repository stays as it is
+abbrev pub stays : RepoState → Reply → Outcome
+stays repo reply = record { reply = reply; repo = repo }
 
 -- a reply to a wanted blob, or 404 where the repository has none (OCI Distribution Specification, "Pulling blobs")
 abbrev pub found_or : (Stored → Reply) → Option Stored → Reply
@@ -27,24 +35,79 @@ found_or reply (Some stored) = reply stored
 
 -- GET of a blob: its bytes
 abbrev pub plain_get : RepoState → List ℕ → Outcome
-plain_get repo digest = record { reply = found_or (λ stored. Blob digest stored.bytes) (map.get repo.blobs digest); repo = repo }
+plain_get repo digest = stays repo (found_or (λ stored. Blob digest stored.bytes) (map.get repo.blobs digest))
 
 -- HEAD of a blob: its size
 abbrev pub plain_head : RepoState → List ℕ → Outcome
-plain_head repo digest = record { reply = found_or (λ stored. BlobHead digest (length stored.bytes)) (map.get repo.blobs digest); repo = repo }
+plain_head repo digest = stays repo (found_or (λ stored. BlobHead digest (length stored.bytes)) (map.get repo.blobs digest))
 
 -- POST of a blob with its digest: 400 where the body has another one, and else the blob is stored (OCI Distribution Specification, "Single POST")
 abbrev pub plain_post : ℕ → RepoState → List ℕ → List ℕ → Outcome
 plain_post moment repo digest body =
     if is_sound digest body then record { reply = BlobMade digest; repo = with_blob moment repo digest body }
-    else record { reply = refusal 400 DigestInvalid; repo = repo }
+    else stays repo (refusal 400 DigestInvalid)
 
--- the first case that fits a request, at this moment; nothing else is built yet
+-- ---- uploads (OCI Distribution Specification, "POST then PUT" and "Pushing a blob in chunks")
+
+-- the repository with these upload sessions
+abbrev pub with_sessions : RepoState → UploadTable → RepoState
+with_sessions repo sessions = record { known = repo.known; blobs = repo.blobs; sessions = sessions }
+
+-- the repository with an upload more, which makes it known
+abbrev pub with_upload : ℕ → RepoState → RepoState
+with_upload moment repo = record { known = true; blobs = repo.blobs; sessions = with_new moment repo.sessions }
+
+-- POST without a digest: 429 where no upload more may be opened, and else 202 and a new upload without bytes, which begins at the moment
+abbrev pub plain_begin : ℕ → RepoState → Outcome
+plain_begin moment repo =
+    if is_full repo.sessions then stays repo (refusal 429 TooManyRequests)
+    else record { reply = Session (repo.sessions.opened + 1) 0 202; repo = with_upload moment repo }
+
+-- what a request on the upload leads to that was found under an id, or 404 where there is none
+abbrev pub at_found : RepoState → (OpenUpload → Outcome) → Option OpenUpload → Outcome
+at_found repo outcome None = stays repo (refusal 404 BlobUploadUnknown)
+at_found repo outcome (Some upload) = outcome upload
+
+-- what a request on the upload of an id leads to, or 404 where none is open under it; a text that is no id names none
+abbrev pub at_upload : RepoState → Option ℕ → (ℕ → OpenUpload → Outcome) → Outcome
+at_upload repo None outcome = stays repo (refusal 404 BlobUploadUnknown)
+at_upload repo (Some id) outcome = at_found repo (outcome id) (map.get repo.sessions.uploads id)
+
+-- what a piece leads to that an upload takes; 416 where it doesn't go on where the upload ends, or 413 where the upload would be too large
+abbrev pub if_taken : RepoState → ℕ → OpenUpload → Option Span → List ℕ → Outcome → Outcome
+if_taken repo id upload range piece outcome =
+    if goes_on range (length upload.bytes) (length piece) then (if keeps_limit upload piece then outcome else stays repo (refusal 413 SizeInvalid))
+    else stays repo (Refused 416 BlobUploadInvalid (details.Session id (length upload.bytes)))
+
+-- GET of an upload: 204 and how many bytes it has
+abbrev pub plain_state : RepoState → ℕ → OpenUpload → Outcome
+plain_state repo id upload = stays repo (Session id (length upload.bytes) 204)
+
+-- PATCH of an upload: 202 and the piece behind its bytes
+abbrev pub plain_patch : RepoState → Option Span → List ℕ → ℕ → OpenUpload → Outcome
+plain_patch repo range piece id upload =
+    if_taken repo id upload range piece (record { reply = Session id (length upload.bytes + length piece) 202; repo = with_sessions repo (with_piece repo.sessions id piece) })
+
+-- the last piece of an upload: 400 where all bytes have another digest, and else 201, the blob is stored and the upload ends
+abbrev pub plain_whole : ℕ → RepoState → List ℕ → List ℕ → ℕ → Outcome
+plain_whole moment repo digest bytes id =
+    if is_sound digest bytes then record { reply = BlobMade digest; repo = with_blob moment (with_sessions repo (without repo.sessions id)) digest bytes }
+    else stays repo (refusal 400 DigestInvalid)
+
+-- PUT of an upload: its last piece, which comes with the digest of all its bytes
+abbrev pub plain_finish : ℕ → RepoState → Option Span → List ℕ → List ℕ → ℕ → OpenUpload → Outcome
+plain_finish moment repo range digest piece id upload = if_taken repo id upload range piece (plain_whole moment repo digest (upload.bytes ++ piece) id)
+
+-- the first case that fits a request, at this moment; no blob is taken over from another repository yet, and no other request is built
 unfoldable pub plain : ℕ → RepoState → Call → Outcome
 plain moment repo (GetBlob digest) = plain_get repo digest
 plain moment repo (HeadBlob digest) = plain_head repo digest
 plain moment repo (Post mount (Some digest) body) = plain_post moment repo digest body
-plain moment repo _ = record { reply = not_built; repo = repo }
+plain moment repo (Post mount None body) = plain_begin moment repo
+plain moment repo (UploadState id) = at_upload repo id (plain_state repo)
+plain moment repo (Patch id range body) = at_upload repo id (plain_patch repo range body)
+plain moment repo (Finish id range digest body) = at_upload repo id (plain_finish moment repo range digest body)
+plain moment repo _ = stays repo not_built
 
 -- the reply and the repository are those of the first case that fits
 pub record IsPlain (moment : ℕ) (old : RepoState) (call : Call) (reply : Reply) (new : RepoState) : Type 0 where
@@ -55,6 +118,7 @@ pub record IsPlain (moment : ℕ) (old : RepoState) (call : Call) (reply : Reply
 pub record LacksMemory (old : RepoState) (reply : Reply) (new : RepoState) : Type 0 where
   pub reply_is : reply ≡ no_memory
   pub blobs : new.blobs ≡ old.blobs
+  pub sessions : new.sessions ≡ old.sessions
   pub known : old.known ≡ true → new.known ≡ true
 
 -- the ways in which a request may be answered

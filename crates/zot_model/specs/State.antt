@@ -4,11 +4,13 @@ use Rattle.std.specs.Coded.{Coded, code_by, coded×, coded_bool, coded_list, cod
 use Rattle.std.specs.FinMap as map
 use Rattle.zot_digest.specs.ByteMap.{ByteMap}
 use Rattle.zot_model.specs.declared.stored.Stored.{Stored}
+use Rattle.zot_model.specs.Uploads.{UploadTable, no_uploads, table_code}
 
--- a repository: whether it is known, and its blobs by their digests
+-- a repository: whether it is known, its blobs by their digests, and its upload sessions
 pub record RepoState : Type 0 where
   pub known : Bool
   pub blobs : ByteMap Stored
+  pub sessions : UploadTable
 
 -- a table of repositories by their names, and how many storage faults it had
 pub record RowState : Type 0 where
@@ -17,7 +19,7 @@ pub record RowState : Type 0 where
 
 -- a repository that nobody has stored anything in
 abbrev pub fresh : RepoState
-fresh = record { known = false; blobs = map.empty }
+fresh = record { known = false; blobs = map.empty; sessions = no_uploads }
 
 -- the repository of a name, which is a fresh one where the table has none
 abbrev pub repo_at : RowState → List ℕ → RepoState
@@ -37,9 +39,10 @@ pub record Becomes (old : RowState) (name : List ℕ) (repo : RepoState) (new : 
 abbrev pub stored_code : Coded Stored
 stored_code = code_by (List ℕ × ℕ) (coded× (coded_list coded_ℕ) coded_ℕ) (λ s. (s.bytes, s.arrived)) (λ p. record { bytes = p.0; arrived = p.1 }) (λ _. refl)
 
--- a repository is coded as its two parts
+-- a repository is coded as its three parts
 abbrev pub repo_code : Coded RepoState
-repo_code = code_by (Bool × ByteMap Stored) (coded× coded_bool (map.code (coded_list coded_ℕ) stored_code)) (λ r. (r.known, r.blobs)) (λ p. record { known = p.0; blobs = p.1 }) (λ _. refl)
+repo_code = code_by (Bool × (ByteMap Stored × UploadTable)) (coded× coded_bool (coded× (map.code (coded_list coded_ℕ) stored_code) table_code))
+    (λ r. (r.known, (r.blobs, r.sessions))) (λ p. record { known = p.0; blobs = p.1.0; sessions = p.1.1 }) (λ _. refl)
 
 -- a table is coded as its two parts
 abbrev pub row_code : Coded RowState

@@ -1,16 +1,17 @@
 -- Each call on an upload has one answer, and leaves other uploads as they were.
-use Rattle.std.proofs.Common.{◌≡◌, ◌≢◌, ◌⊎◌, inl, inr, ℕ, ◌+◌, ◌≤◌, ◌<◌, Bool, true, false, cond, List, [], ◌++◌, length, Option, Some, None, refl, sym, ap, ◌∙◌, arith}
+use Rattle.std.proofs.Common.{◌≡◌, ◌≢◌, ◌⊎◌, inl, inr, ℕ, ◌+◌, ◌≤◌, ◌<◌, nat_le, Bool, true, false, ◌||◌, cond, List, [], ◌++◌, length, Option, Some, None, refl, sym, ap, ◌∙◌, arith}
 use Rattle.std.specs.Cmp.{eq_by_cmp_equiv, nat_cmp_total}
 use Rattle.std.specs.FinMap as map
 use Rattle.std.specs.FinMap.{get-insert, get-remove, len-insert}
 use Rattle.std.specs.Ordering.{eq_by_cmp, nat_cmp}
-use Rattle.std.proofs.lemmas.Bool.{cases_eq, cases_lt}
+use Rattle.std.proofs.lemmas.Bool.Decides.{nat_tests}
 use Rattle.std.proofs.lemmas.Slice.Eq.{bytes_eq-Decides}
 use Rattle.zot_digest.specs.Digest.{IsSound, is_sound}
 use Rattle.zot_model.specs.declared.span.Span.{Span}
 use Rattle.zot_uploads.proofs.NumberMapLemmas.{tied}
-use Rattle.zot_uploads.specs.Cases.{GoesOn, HasRoom, IsNextRange, KeepsLimit, Refuses, RefusesWhole, open_limit, upload_limit}
-use Rattle.zot_uploads.specs.Table.{NumberMap, OpenUpload, UploadTable, longer, put_behind, with_new, with_piece, without}
+use Rattle.zot_uploads.specs.Cases.{GoesOn, HasRoom, KeepsLimit, Refuses, RefusesWhole}
+use Rattle.zot_model.specs.Pieces.{goes_on, keeps_limit}
+use Rattle.zot_model.specs.Uploads.{NumberMap, OpenUpload, UploadTable, last_id, longer, open_limit, put_behind, with_new, with_piece, without}
 use Rattle.zot_uploads.specs.declared.upload_error.UploadError.{UploadError}
 use Rattle.zot_uploads.specs.declared.upload_error.UploadError.TheVariants as errors
 
@@ -18,21 +19,15 @@ use Rattle.zot_uploads.specs.declared.upload_error.UploadError.TheVariants as er
 abbrev pub Decided : Type 0 → Type 0
 Decided P = P ⊎ (¬ P)
 
-goes_at : (span : Span) (before size : ℕ) → (span.start ≡ before) ⊎ (span.start ≢ before) → (span.end + 1 ≡ span.start + size) ⊎ (span.end + 1 ≢ span.start + size) → Decided (IsNextRange span before size)
-goes_at span before size (inl s) (inl e) = inl (record { starts = s; ends = e })
-goes_at span before size (inl s) (inr e) = inr (λ h. e h.ends)
-goes_at span before size (inr s) e = inr (λ h. s h.starts)
+is_true : (b : Bool) → Decided (b ≡ true)
+is_true true = inl refl
+is_true false = inr (λ h. cc h)
 
 goes : (range : Option Span) (upload : OpenUpload) (piece : List ℕ) → Decided (GoesOn range upload piece)
-goes None upload piece = inl tt
-goes (Some span) upload piece = goes_at span (length upload.bytes) (length piece) (cases_eq _ _) (cases_eq _ _)
-
-keeps_at : (n limit : ℕ) → (limit < n) ⊎ (n ≤ limit) → Decided (n ≤ limit)
-keeps_at n limit (inl h) = inr (λ k. omega arith)
-keeps_at n limit (inr h) = inl h
+goes range upload piece = is_true (goes_on range (length upload.bytes) (length piece))
 
 keeps : (upload : OpenUpload) (piece : List ℕ) → Decided (KeepsLimit upload piece)
-keeps upload piece = keeps_at (length upload.bytes + length piece) upload_limit (cases_lt _ _)
+keeps upload piece = is_true (keeps_limit upload piece)
 
 sound_at : (digest bytes : List ℕ) (b : Bool) → is_sound digest bytes ≡ b → Decided (IsSound digest bytes)
 sound_at digest bytes true e = inl ((bytes_eq-Decides digest _).0 e)
@@ -186,8 +181,11 @@ one_more : (b : Bool) (n limit : ℕ) → n < limit → cond b n (n + 1) ≤ lim
 one_more true n limit h = omega arith
 one_more false n limit h = omega arith
 
+few_by : (n opened most last : ℕ) → (nat_le most n || nat_le last opened) ≡ false → n < most
+few_by n opened most last h = grind (arith, nat_tests, h)
+
 -- where there is room, no more are open than may be
 pub few : (table : UploadTable) (moment : ℕ) → HasRoom table → map.len (with_new moment table).uploads ≤ open_limit
 few table moment room =
-    let most = one_more (map.contains_key table.uploads (table.opened + 1)) (map.len table.uploads) open_limit room.few in
+    let most = one_more (map.contains_key table.uploads (table.opened + 1)) (map.len table.uploads) open_limit (few_by (map.len table.uploads) table.opened open_limit last_id room) in
     omega (arith, len-insert nat_cmp_total table.uploads (table.opened + 1) (record { bytes = []; start = moment }), most)

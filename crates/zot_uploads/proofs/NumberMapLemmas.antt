@@ -11,7 +11,7 @@ use Rattle.std.specs.Ordering.{eq_by_cmp, nat_cmp}
 use Rattle.std.proofs.lemmas.Map.{lookup-none}
 use Rattle.std.proofs.lemmas.Map.Entries.{lookup-filter-values, none_past_head, option_filter}
 use Rattle.std.proofs.lemmas.Map.Keys.{IsDistinct-from_sorted, IsDistinct-tail}
-use Rattle.zot_uploads.specs.Table.{NumberMap, numbered}
+use Rattle.zot_model.specs.Uploads.{NumberMap, numbered}
 
 -- two numbers that tie are one
 pub tied : (q k : ℕ) → eq_by_cmp nat_cmp q k ≡ true → q ≡ k

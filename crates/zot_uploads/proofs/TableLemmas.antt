@@ -9,7 +9,7 @@ use Rattle.std.proofs.lemmas.Map.Entries.{option_filter}
 use Rattle.std.specs.BTreeMap.{is_at}
 use Rattle.std.specs.Map.{KeepsOthers, lookup}
 use Rattle.zot_uploads.proofs.NumberMapLemmas.{found_at, insert-same, numbered-insert, tied}
-use Rattle.zot_uploads.specs.Table.{NumberMap, OpenUpload, WereGiven, if_young, is_aged, longer, numbered, put_behind}
+use Rattle.zot_model.specs.Uploads.{NumberMap, OpenUpload, WereGiven, if_young, is_aged, longer, numbered, put_behind}
 
 kept_young : (b : Bool) (upload : OpenUpload) → cond (not b) (Some upload) None ≡ (if b then None else Some upload)
 kept_young true upload = refl

@@ -1,37 +1,19 @@
 -- When a call on an upload succeeds and when it is refused: the first case that fits, in the order of the errors.
-use Rattle.std.specs.Prelude.{◌≡◌, ◌≢◌, ◌⊎◌, ℕ, ◌+◌, ◌<◌, ◌≤◌, List, ◌++◌, length, Option, None, IfSome, IsSomeAnd}
-use Rattle.std.specs.FinMap as map
+use Rattle.std.specs.Prelude.{◌≡◌, ◌≢◌, ℕ, true, false, List, ◌++◌, length, Option, None, IsSomeAnd}
 use Rattle.zot_digest.specs.Digest.{IsSound}
 use Rattle.zot_model.specs.declared.span.Span.{Span}
+use Rattle.zot_model.specs.Pieces.{goes_on, keeps_limit}
+use Rattle.zot_model.specs.Uploads.{OpenUpload, UploadTable, is_full}
 use Rattle.zot_uploads.specs.declared.upload_error.UploadError.{UploadError}
 use Rattle.zot_uploads.specs.declared.upload_error.UploadError.TheVariants as errors
-use Rattle.zot_uploads.specs.Table.{OpenUpload, UploadTable}
-
--- the most uploads that a repository has open
-unfoldable pub open_limit : ℕ
-open_limit = 1_000
-
--- the last id
-unfoldable pub last_id : ℕ
-last_id = 18_446_744_073_709_551_615
-
--- the most bytes that an upload has
-unfoldable pub upload_limit : ℕ
-upload_limit = 67_108_864
-
--- the range of a piece of so many bytes that stands behind so many others: it starts at the place behind these, and has a place for each byte.
--- Places are counted from 0, and the last one belongs to the range
-pub record IsNextRange (span : Span) (before size : ℕ) : Type 0 where
-  pub starts : span.start ≡ before
-  pub ends : span.end + 1 ≡ span.start + size
 
 -- a piece goes on where an upload ends; one that comes without a range always does
 abbrev pub GoesOn : Option Span → OpenUpload → List ℕ → Type 0
-GoesOn range upload piece = IfSome range (λ span. IsNextRange span (length upload.bytes) (length piece))
+GoesOn range upload piece = goes_on range (length upload.bytes) (length piece) ≡ true
 
 -- an upload keeps its limit with a piece behind its bytes
 abbrev pub KeepsLimit : OpenUpload → List ℕ → Type 0
-KeepsLimit upload piece = length upload.bytes + length piece ≤ upload_limit
+KeepsLimit upload piece = keeps_limit upload piece ≡ true
 
 -- the piece is taken by what was found under the id: an upload is open there, the piece goes on where it ends, and the limit is kept
 abbrev pub IsTaken : Option OpenUpload → Option Span → List ℕ → Type 0
@@ -62,13 +44,12 @@ RefusesWhole found range piece digest errors.NoMemory = IsWhole found range piec
 RefusesWhole found range piece digest refusal = Refuses found range piece refusal
 
 -- an upload more may be opened: fewer than the most are open, and the last id wasn't given
-pub record HasRoom (table : UploadTable) : Type 0 where
-  pub few : map.len table.uploads < open_limit
-  pub ids : table.opened < last_id
+abbrev pub HasRoom : UploadTable → Type 0
+HasRoom table = is_full table ≡ false
 
 -- no upload more may be opened
 abbrev pub IsFull : UploadTable → Type 0
-IsFull table = (open_limit ≤ map.len table.uploads) ⊎ (last_id ≤ table.opened)
+IsFull table = is_full table ≡ true
 
 -- a new upload is refused so. Memory runs out only where there is room
 abbrev pub RefusesNew : UploadTable → UploadError → Type 0

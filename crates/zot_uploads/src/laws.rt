@@ -2,8 +2,8 @@
 ghost use Rattle.std.specs.Prelude.{◌≡◌, ◌≢◌, ◌≤◌, ℕ, ◌+◌, List, Option, None};
 ghost use Rattle.std.specs.FinMap as map;
 ghost use Rattle.zot_model.specs.declared.span.Span.{Span};
-ghost use Rattle.zot_uploads.specs.Cases.{HasRoom, Refuses, RefusesWhole, open_limit};
-ghost use Rattle.zot_uploads.specs.Table.{OpenUpload, UploadTable, with_new, with_piece, without};
+ghost use Rattle.zot_uploads.specs.Cases.{HasRoom, Refuses, RefusesWhole};
+ghost use Rattle.zot_model.specs.Uploads.{OpenUpload, UploadTable, open_limit, with_new, with_piece, without};
 ghost use Rattle.zot_uploads.specs.declared.upload_error.UploadError.{UploadError};
 
 /// The law that a piece and a last piece have one answer each, whatever is open and whatever comes: one of the refusals, or, as `NoMemory` stands for it here, that they are taken.

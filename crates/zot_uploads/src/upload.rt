@@ -1,8 +1,9 @@
 //! An open upload.
 ghost use Rattle.std.specs.Prelude.{◌≡◌, ◌≢◌, ◌↔◌, ◌+◌, ◌-◌, ◌≤◌, ◌++◌, [], length, Some, IfOk, IfErr, IfSome, IsTrue, OnOk, OnErr};
 ghost use Rattle.zot_digest.specs.Digest.{IsSound};
-ghost use Rattle.zot_uploads.specs.Cases.{IsNextRange, IsTaken, IsWhole, Refuses, RefusesWhole};
-ghost use Rattle.zot_uploads.specs.Table.{is_aged, longer};
+ghost use Rattle.zot_model.specs.Pieces.{goes_on};
+ghost use Rattle.zot_uploads.specs.Cases.{IsTaken, IsWhole, Refuses, RefusesWhole};
+ghost use Rattle.zot_model.specs.Uploads.{is_aged, longer};
 
 use crate::upload_error::UploadError;
 use std::alloc::Global;
@@ -21,7 +22,7 @@ pub struct Upload {
 }
 
 impl Model for Upload {
-    ghost use Rattle.zot_uploads.specs.Table.{OpenUpload, upload_code};
+    ghost use Rattle.zot_model.specs.Uploads.{OpenUpload, upload_code};
 
     ghost Value = { OpenUpload };
 
@@ -94,7 +95,7 @@ impl Upload {
     }
 
     // How many bytes there are with a piece behind them, where it is taken.
-    #[tactic(auto, unfolding(crate::specs::Cases::upload_limit))]
+    #[tactic(auto, unfolding(zot_model::specs::Pieces::upload_limit))]
     fn grown(&self, range: Option<Span>, piece: &[u8]) -> Result<u64, UploadError>
         ensures taken { OnOk result (IsTaken (Some self.now) range piece.now) }
         ensures length { IfOk result (λ n. n ≡ length self.now.bytes + length piece.now) }
@@ -126,7 +127,7 @@ impl Upload {
 // Whether a range, where there is one, begins behind so many bytes and ends where there are so many.
 fn goes_on(range: Option<Span>, before: u64, after: u64) -> bool
     requires { before ≤ after }
-    ensures { IsTrue result ↔ IfSome range (λ span. IsNextRange span before (after - before)) }
+    ensures { result ≡ goes_on range before (after - before) }
 {
     match range {
         Some(span) => span.start == before && span.end < after && span.end + 1 == after,

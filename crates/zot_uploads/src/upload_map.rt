@@ -2,7 +2,7 @@
 ghost use Rattle.std.specs.Prelude.{◌≡◌, ℕ, ◌+◌, ◌≤◌, length, IfOk, IfErr, OnOk, OnErr, option_copied};
 ghost use Rattle.std.specs.FinMap as map;
 ghost use Rattle.zot_uploads.specs.Cases.{IsTaken, Refuses};
-ghost use Rattle.zot_uploads.specs.Table.{bytes_of, if_young, put_behind};
+ghost use Rattle.zot_model.specs.Uploads.{bytes_of, if_young, put_behind};
 
 use crate::upload::Upload;
 use crate::upload_error::UploadError;
@@ -19,7 +19,7 @@ pub struct UploadMap {
 }
 
 impl Model for UploadMap {
-    ghost use Rattle.zot_uploads.specs.Table.{OpenUpload, NumberMap, numbered, uploads_code};
+    ghost use Rattle.zot_model.specs.Uploads.{OpenUpload, NumberMap, numbered, uploads_code};
 
     ghost Value = { NumberMap OpenUpload };
 

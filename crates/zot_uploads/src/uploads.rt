@@ -2,7 +2,7 @@
 ghost use Rattle.std.specs.Prelude.{◌≡◌, ◌+◌, ◌++◌, length, None, IfOk, IfErr, OnOk, OnErr, option_map};
 ghost use Rattle.std.specs.FinMap as map;
 ghost use Rattle.zot_uploads.specs.Cases.{HasRoom, IsTaken, IsWhole, Refuses, RefusesNew, RefusesWhole};
-ghost use Rattle.zot_uploads.specs.Table.{Expires, bytes_of, no_uploads, with_new, with_piece, without};
+ghost use Rattle.zot_model.specs.Uploads.{Expires, bytes_of, no_uploads, with_new, with_piece, without};
 
 use crate::upload::Upload;
 use crate::upload_error::UploadError;
@@ -24,7 +24,7 @@ pub struct Uploads {
 }
 
 impl Model for Uploads {
-    ghost use Rattle.zot_uploads.specs.Table.{UploadTable, WereGiven, table_code};
+    ghost use Rattle.zot_model.specs.Uploads.{UploadTable, WereGiven, table_code};
 
     ghost Value = { UploadTable };
 
@@ -47,7 +47,7 @@ impl Uploads {
     }
 
     /// Opens an upload with no bytes at the moment, in seconds. Its id is the number of uploads opened, this one among them. `Full` comes exactly where 1,000 are open or the last id was given, `NoMemory` only where memory runs out. After an `Err` the table is as it was.
-    #[tactic(auto, unfolding(crate::specs::Cases::open_limit, crate::specs::Cases::last_id))]
+    #[tactic(auto, unfolding(zot_model::specs::Uploads::open_limit, zot_model::specs::Uploads::last_id))]
     pub fn begin(&mut self, alloc: Global, moment: u64) -> Result<UploadId, UploadError>
         ensures room { OnOk result (HasRoom self.old) }
         ensures id { IfOk result (λ id. id ≡ self.old.opened + 1) }

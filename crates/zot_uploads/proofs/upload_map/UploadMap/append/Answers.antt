@@ -3,7 +3,7 @@ use Rattle.std.specs.Prelude.{IfErr, IfOk, OnOk}
 use Rattle.zot_uploads.proofs.NumberMapLemmas.{found_at}
 use Rattle.zot_uploads.proofs.TableLemmas.{not_put, put}
 use Rattle.zot_uploads.specs.Cases.{IsTaken, Refuses}
-use Rattle.zot_uploads.specs.Table.{bytes_of}
+use Rattle.zot_model.specs.Uploads.{bytes_of}
 use Rattle.zot_uploads.proofs.upload_map.UploadMap.append.Goals as goal
 
 pub returns-in_default-clause-refused : goal.returns-in_default-clause-refused

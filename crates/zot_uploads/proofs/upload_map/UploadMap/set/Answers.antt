@@ -1,7 +1,7 @@
 use Rattle.std.proofs.Common.{ap, ◌∙◌}
 use Rattle.std.specs.FinMap as map
 use Rattle.zot_uploads.proofs.NumberMapLemmas.{numbered-insert}
-use Rattle.zot_uploads.specs.Table.{NumberMap, OpenUpload}
+use Rattle.zot_model.specs.Uploads.{NumberMap, OpenUpload}
 use Rattle.zot_uploads.proofs.upload_map.UploadMap.set.Goals as goal
 
 pub returns-clause-ok : goal.returns-clause-ok

@@ -1,5 +1,5 @@
 -- The upload sessions of one repository, and what becomes of them (OCI Distribution Specification, "Pushing a blob in chunks").
-use Rattle.std.specs.Prelude.{◌≡◌, ℕ, ◌+◌, ◌≤◌, nat_le, Bool, List, [], ◌++◌, Option, Some, None, IsSome, if◌then◌else◌, refl}
+use Rattle.std.specs.Prelude.{◌≡◌, ℕ, ◌+◌, ◌≤◌, nat_le, Bool, ◌||◌, List, [], ◌++◌, Option, Some, None, IsSome, if◌then◌else◌, refl}
 use Rattle.std.specs.Coded.{Coded, code_by, coded×, coded_list, coded_ℕ}
 use Rattle.std.specs.FinMap as map
 use Rattle.std.specs.Ordering.{nat_cmp}
@@ -17,10 +17,22 @@ pub record OpenUpload : Type 0 where
   pub bytes : List ℕ
   pub start : ℕ
 
--- the open uploads by the numbers of their ids, and how many were opened since the table was made
+-- the open uploads by the numbers of their ids, and how many were opened since the repository's table was made
 pub record UploadTable : Type 0 where
   pub uploads : NumberMap OpenUpload
   pub opened : ℕ
+
+-- the most uploads that a repository has open
+unfoldable pub open_limit : ℕ
+open_limit = 1_000
+
+-- the last id
+unfoldable pub last_id : ℕ
+last_id = 18_446_744_073_709_551_615
+
+-- whether no upload more may be opened: as many are open as may be, or the last id was given
+abbrev pub is_full : UploadTable → Bool
+is_full table = nat_le open_limit (map.len table.uploads) || nat_le last_id table.opened
 
 -- each id of an open upload was given: it is at most the number of uploads opened
 abbrev pub WereGiven : NumberMap OpenUpload → ℕ → Type 0
