@@ -4,6 +4,7 @@
 mod call;
 mod code;
 mod detail;
+mod laws;
 mod methods;
 mod mount;
 mod reply;
@@ -17,6 +18,7 @@ mod tests;
 pub use crate::call::Call;
 pub use crate::code::Code;
 pub use crate::detail::Detail;
+pub use crate::laws::answers_fit;
 pub use crate::methods::Methods;
 pub use crate::mount::Mount;
 pub use crate::reply::Reply;

@@ -1,5 +1,5 @@
 //! Each public call once, and values that differ.
-use crate::{Call, Code, Detail, Methods, Mount, Reply, Request, RowCall, RowReply, Span, Stored};
+use crate::{Call, Code, Detail, Methods, Mount, Reply, Request, RowCall, RowReply, Span, Stored, answers_fit};
 use std::test::Fail;
 use zot_digest::{Bytes, digest_of};
 use zot_media::Reference;
@@ -7,6 +7,7 @@ use zot_names::{RepoName, TagList, UploadId};
 
 #[test]
 fn requests(rt: HostRuntime) -> Result<(), Fail> {
+    answers_fit();
     let alloc = rt.alloc();
     let digest = digest_of(b"{}");
     let call = RowCall::Ask(Request {

@@ -1,46 +1,49 @@
--- What the parts of a table's step say is what the plain registry says.
-use Rattle.std.proofs.Common.{◌≡◌, ◌≢◌, ℕ, Bool, true, false, List, length, Option, Some, None, inl, inr, refl, sym, ap, ◌∙◌, subst, if◌then◌else◌}
+-- What the parts of a repository's answer say is what the plain registry says.
+use Rattle.std.proofs.Common.{◌≡◌, ◌≢◌, ◌⊎◌, ℕ, ◌+◌, Bool, true, false, List, ◌++◌, length, Option, Some, None, inl, inr, refl, sym, ap, ◌∙◌, subst, if◌then◌else◌}
 use Rattle.std.specs.FinMap as map
 use Rattle.std.proofs.lemmas.Slice.Eq.{bytes_eq-Decides}
 use Rattle.zot_digest.specs.Digest.{IsSound, is_sound}
 use Rattle.zot_model.specs.declared.call.Call.{Call}
 use Rattle.zot_model.specs.declared.call.Call.TheVariants as calls
-use Rattle.zot_model.specs.declared.call.Call.TheVariants.{GetBlob, HeadBlob, Post}
-use Rattle.zot_model.specs.declared.code.Code.TheVariants.{DigestInvalid}
+use Rattle.zot_model.specs.declared.code.Code.TheVariants.{DigestInvalid, TooManyRequests}
 use Rattle.zot_model.specs.declared.mount.Mount.{Mount}
 use Rattle.zot_model.specs.declared.reply.Reply.{Reply}
-use Rattle.zot_model.specs.declared.reply.Reply.TheVariants.{BlobHead, BlobMade}
-use Rattle.zot_model.specs.Plain.{LacksMemory, MayAnswer, Outcome, found_or, plain, with_blob}
+use Rattle.zot_model.specs.declared.reply.Reply.TheVariants.{Blob, BlobHead, BlobMade, Session}
+use Rattle.zot_model.specs.declared.span.Span.{Span}
+use Rattle.zot_model.specs.Pieces.{goes_on, keeps_limit}
+use Rattle.zot_model.specs.Plain.{LacksMemory, MayAnswer, Outcome, at_found, at_upload, found_or, if_taken, plain, plain_begin, plain_finish, plain_patch, plain_state, plain_whole, stays, with_blob, with_sessions, with_upload}
 use Rattle.zot_model.specs.Reply.{no_memory, not_built, refusal}
-use Rattle.zot_model.specs.State.{Becomes, RepoState, RowState, repo_at}
+use Rattle.zot_model.proofs.FitLemmas.{answer_fits}
+use Rattle.zot_model.specs.Fits.{FitsCall}
+use Rattle.zot_model.specs.State.{Becomes, RepoState, RowState, fresh, repo_at}
 use Rattle.zot_repo.proofs.RowLemmas.{becomes_itself}
-use Rattle.zot_repo.specs.Replies.{GivesBlob, MayReply, TakesBlob}
+use Rattle.zot_model.specs.Uploads.{OpenUpload, bytes_of, is_full, with_new, with_piece, without}
+use Rattle.zot_repo.specs.Refusals.{new_refusal, upload_refusal}
+use Rattle.zot_repo.specs.Replies.{EndsWith, GivesBlob, MayReply, TakesBlob, found_told, upload_told}
+use Rattle.zot_uploads.specs.Cases.{IsTaken, IsWhole, Refuses, RefusesNew, RefusesWhole}
+use Rattle.zot_uploads.specs.declared.upload_error.UploadError.{UploadError}
+use Rattle.zot_uploads.specs.declared.upload_error.UploadError.TheVariants as errors
 
-lacks : (repo : RepoState) (reply : Reply) → reply ≡ no_memory → LacksMemory repo reply repo
-lacks repo reply h = record { reply_is = h; blobs = refl; known = λ k. k }
+-- memory ran out, and nothing changed
+pub lacks : (moment : ℕ) (old new : RepoState) (call : Call) (reply : Reply) → reply ≡ no_memory → new ≡ old → MayAnswer moment old call reply new
+lacks moment old new call reply h same = inr (record {
+  reply_is = h;
+  blobs = ap (λ (r : RepoState). r.blobs) same;
+  sessions = ap (λ (r : RepoState). r.sessions) same;
+  known = λ k. ap (λ (r : RepoState). r.known) same ∙ k;
+})
 
-get_answers : (repo : RepoState) (digest : List ℕ) (reply : Reply) → GivesBlob (map.get repo.blobs digest) digest reply → MayAnswer 0 repo (GetBlob digest) reply repo
-unfolding plain
-get_answers repo digest reply (inl is) = inl (record { reply_is = is; repo_is = refl })
-get_answers repo digest reply (inr none) = inr (lacks repo reply none)
+-- the reply and the repository are those of the case that fits
+pub is_plain : (moment : ℕ) (old new : RepoState) (call : Call) (reply : Reply) (outcome : Outcome) → plain moment old call ≡ outcome → reply ≡ outcome.reply → new ≡ outcome.repo → MayAnswer moment old call reply new
+is_plain moment old new call reply outcome is reply_is repo_is = inl (record {
+  reply_is = reply_is ∙ ap (λ (o : Outcome). o.reply) (sym is);
+  repo_is = repo_is ∙ ap (λ (o : Outcome). o.repo) (sym is);
+})
 
--- a GET is answered as the plain registry does
-pub get_replies : (row : RowState) (name digest : List ℕ) (reply : Reply) → GivesBlob (map.get (repo_at row name).blobs digest) digest reply → MayReply 0 row name (GetBlob digest) reply row
-get_replies row name digest reply h = (repo_at row name, becomes_itself row name, get_answers (repo_at row name) digest reply h)
-
-head_answers : (repo : RepoState) (digest : List ℕ) (reply : Reply) → reply ≡ found_or (λ stored. BlobHead digest (length stored.bytes)) (map.get repo.blobs digest) → MayAnswer 0 repo (HeadBlob digest) reply repo
-unfolding plain
-head_answers repo digest reply is = inl (record { reply_is = is; repo_is = refl })
-
--- a HEAD is answered as the plain registry does
-pub head_replies : (row : RowState) (name digest : List ℕ) (reply : Reply) → reply ≡ found_or (λ stored. BlobHead digest (length stored.bytes)) (map.get (repo_at row name).blobs digest)
-    → MayReply 0 row name (HeadBlob digest) reply row
-head_replies row name digest reply h = (repo_at row name, becomes_itself row name, head_answers (repo_at row name) digest reply h)
-
--- the test is false where the fact doesn't hold
-unsound : (digest body : List ℕ) (b : Bool) → is_sound digest body ≡ b → ¬ IsSound digest body → b ≡ false
-unsound digest body true e h = absurd (h ((bytes_eq-Decides digest _).0 e))
-unsound digest body false e h = refl
+-- the same repository and the same call, told otherwise
+pub at_call : (moment : ℕ) (old inside new : RepoState) (call other : Call) (reply : Reply) → inside ≡ old → other ≡ call → MayAnswer moment inside other reply new → MayAnswer moment old call reply new
+at_call moment old inside new call other reply is same h =
+    subst (λ (q : Call). MayAnswer moment old q reply new) same (subst (λ (r : RepoState). MayAnswer moment r other reply new) is h)
 
 chosen : (b : Bool) (x y : Outcome) → b ≡ false → (if b then x else y) ≡ y
 chosen true x y h = cc h
@@ -50,63 +53,232 @@ taken : (b : Bool) (x y : Outcome) → b ≡ true → (if b then x else y) ≡ x
 taken true x y h = refl
 taken false x y h = cc h
 
-post_refused : (repo : RepoState) (mount : Option Mount) (digest body : List ℕ) → ¬ IsSound digest body → plain 0 repo (Post mount (Some digest) body) ≡ record { reply = refusal 400 DigestInvalid; repo = repo }
-unfolding plain
-post_refused repo mount digest body h = chosen (is_sound digest body) _ _ (unsound digest body (is_sound digest body) refl h)
+-- a test is false where it isn't true
+isnt : (b : Bool) → ¬ (b ≡ true) → b ≡ false
+isnt true h = absurd (h refl)
+isnt false h = refl
 
-post_made : (repo : RepoState) (mount : Option Mount) (digest body : List ℕ) → IsSound digest body → plain 0 repo (Post mount (Some digest) body) ≡ record { reply = BlobMade digest; repo = with_blob 0 repo digest body }
+unsound : (digest bytes : List ℕ) → ¬ IsSound digest bytes → is_sound digest bytes ≡ false
+unsound digest bytes h = isnt (is_sound digest bytes) (λ e. h ((bytes_eq-Decides digest _).0 e))
+
+sound : (digest bytes : List ℕ) → IsSound digest bytes → is_sound digest bytes ≡ true
+sound digest bytes h = (bytes_eq-Decides digest _).1 h
+
+-- ---- blobs
+
+-- a GET is answered as the plain registry does
+pub get_answers : (moment : ℕ) (repo : RepoState) (digest : List ℕ) (reply : Reply) → GivesBlob (map.get repo.blobs digest) digest reply → MayAnswer moment repo (calls.GetBlob digest) reply repo
 unfolding plain
-post_made repo mount digest body h = taken (is_sound digest body) _ _ ((bytes_eq-Decides digest _).1 h)
+get_answers moment repo digest reply (inl is) = inl (record { reply_is = is; repo_is = refl })
+get_answers moment repo digest reply (inr memory) = lacks moment repo repo (calls.GetBlob digest) reply memory refl
+
+-- a HEAD is answered as the plain registry does
+pub head_answers : (moment : ℕ) (repo : RepoState) (digest : List ℕ) (reply : Reply) → reply ≡ found_or (λ stored. BlobHead digest (length stored.bytes)) (map.get repo.blobs digest)
+    → MayAnswer moment repo (calls.HeadBlob digest) reply repo
+unfolding plain
+head_answers moment repo digest reply is = inl (record { reply_is = is; repo_is = refl })
 
 -- a POST of a blob with its digest is answered as the plain registry does
-pub post_replies : (old new : RowState) (name : List ℕ) (mount : Option Mount) (digest body : List ℕ) (reply : Reply) → TakesBlob old name digest body reply new → MayReply 0 old name (Post mount (Some digest) body) reply new
-post_replies old new name mount digest body reply (inl h) =
-    let is = post_refused (repo_at old name) mount digest body h.0 in (
-      repo_at old name,
-      subst (λ row. Becomes old name (repo_at old name) row) (sym h.2) (becomes_itself old name),
-      inl (record { reply_is = h.1 ∙ ap (λ (o : Outcome). o.reply) (sym is); repo_is = ap (λ (o : Outcome). o.repo) (sym is) }),
-    )
-post_replies old new name mount digest body reply (inr (inl h)) =
-    let is = post_made (repo_at old name) mount digest body h.0 in (
-      with_blob 0 (repo_at old name) digest body,
-      h.2,
-      inl (record { reply_is = h.1 ∙ ap (λ (o : Outcome). o.reply) (sym is); repo_is = ap (λ (o : Outcome). o.repo) (sym is) }),
-    )
-post_replies old new name mount digest body reply (inr (inr h)) = (repo_at old name, h.1, inr (lacks (repo_at old name) reply h.0))
-
--- a request that isn't built yet
-pub unbuilt : (row : RowState) (name : List ℕ) (call : Call) (reply : Reply) → plain 0 (repo_at row name) call ≡ record { reply = not_built; repo = repo_at row name } → reply ≡ not_built
-    → MayReply 0 row name call reply row
-unbuilt row name call reply is h = (
-  repo_at row name,
-  becomes_itself row name,
-  inl (record { reply_is = h ∙ ap (λ (o : Outcome). o.reply) (sym is); repo_is = ap (λ (o : Outcome). o.repo) (sym is) }),
-)
-
--- a POST without a digest isn't built yet
-pub unbuilt_post : (row : RowState) (name : List ℕ) (mount : Option Mount) (body : List ℕ) (reply : Reply) → reply ≡ not_built → MayReply 0 row name (Post mount None body) reply row
+pub post_answers : (moment : ℕ) (repo new : RepoState) (mount : Option Mount) (digest body : List ℕ) (reply : Reply) → TakesBlob moment repo digest body reply new
+    → MayAnswer moment repo (calls.Post mount (Some digest) body) reply new
 unfolding plain
-unbuilt_post row name mount body reply h = unbuilt row name (Post mount None body) reply refl h
+post_answers moment repo new mount digest body reply (inl h) =
+    is_plain moment repo new (calls.Post mount (Some digest) body) reply _ (chosen (is_sound digest body) _ _ (unsound digest body h.0)) h.1 h.2
+post_answers moment repo new mount digest body reply (inr (inl h)) =
+    is_plain moment repo new (calls.Post mount (Some digest) body) reply _ (taken (is_sound digest body) _ _ (sound digest body h.0)) h.1 h.2
+post_answers moment repo new mount digest body reply (inr (inr h)) = lacks moment repo new (calls.Post mount (Some digest) body) reply h.0 h.1
 
-plain_unbuilt : (repo : RepoState) (call : Call) → ((digest : List ℕ) → call ≢ GetBlob digest) → ((digest : List ℕ) → call ≢ HeadBlob digest)
-    → ((mount : Option Mount) (digest : Option (List ℕ)) (body : List ℕ) → call ≢ Post mount digest body) → plain 0 repo call ≡ record { reply = not_built; repo = repo }
+-- ---- uploads
+
+-- a POST of a new upload
+pub begun : (moment : ℕ) (repo new : RepoState) (mount : Option Mount) (body : List ℕ) (reply : Reply) → is_full repo.sessions ≡ false → reply ≡ Session (repo.sessions.opened + 1) 0 202 → new ≡ with_upload moment repo
+    → MayAnswer moment repo (calls.Post mount None body) reply new
 unfolding plain
-plain_unbuilt repo calls.Base g h p = refl
-plain_unbuilt repo (GetBlob digest) g h p = absurd (g digest refl)
-plain_unbuilt repo (HeadBlob digest) g h p = absurd (h digest refl)
-plain_unbuilt repo (calls.DeleteBlob digest) g h p = refl
-plain_unbuilt repo (Post mount digest body) g h p = absurd (p mount digest body refl)
-plain_unbuilt repo (calls.Patch id range body) g h p = refl
-plain_unbuilt repo (calls.Finish id range digest body) g h p = refl
-plain_unbuilt repo (calls.UploadState id) g h p = refl
-plain_unbuilt repo (calls.PutManifest reference media body) g h p = refl
-plain_unbuilt repo (calls.GetManifest reference) g h p = refl
-plain_unbuilt repo (calls.HeadManifest reference) g h p = refl
-plain_unbuilt repo (calls.DeleteManifest reference) g h p = refl
-plain_unbuilt repo (calls.Tags n last) g h p = refl
-plain_unbuilt repo (calls.Referrers digest filter) g h p = refl
+begun moment repo new mount body reply room is same = is_plain moment repo new (calls.Post mount None body) reply _ (chosen (is_full repo.sessions) _ _ room) is same
+
+full : (moment : ℕ) (repo new : RepoState) (mount : Option Mount) (body : List ℕ) (reply : Reply) → is_full repo.sessions ≡ true → reply ≡ refusal 429 TooManyRequests → new ≡ repo
+    → MayAnswer moment repo (calls.Post mount None body) reply new
+unfolding plain
+full moment repo new mount body reply h is same = is_plain moment repo new (calls.Post mount None body) reply _ (taken (is_full repo.sessions) _ _ h) is same
+
+-- an error is want of memory, or it isn't
+or_memory : (error : UploadError) → (error ≡ errors.NoMemory) ⊎ (error ≢ errors.NoMemory)
+or_memory errors.Full = inr (λ e. cc e)
+or_memory errors.Unknown = inr (λ e. cc e)
+or_memory (errors.Range end) = inr (λ e. cc e)
+or_memory errors.TooLarge = inr (λ e. cc e)
+or_memory (errors.Differ other) = inr (λ e. cc e)
+or_memory errors.NoMemory = inl refl
+
+-- one that is refused
+pub not_begun : (moment : ℕ) (repo new : RepoState) (mount : Option Mount) (body : List ℕ) (error : UploadError) (reply : Reply) → RefusesNew repo.sessions error → reply ≡ new_refusal error → new ≡ repo
+    → MayAnswer moment repo (calls.Post mount None body) reply new
+not_begun moment repo new mount body errors.Full reply h is same = full moment repo new mount body reply h is same
+not_begun moment repo new mount body errors.Unknown reply h is same = absurd h
+not_begun moment repo new mount body (errors.Range end) reply h is same = absurd h
+not_begun moment repo new mount body errors.TooLarge reply h is same = absurd h
+not_begun moment repo new mount body (errors.Differ found) reply h is same = absurd h
+not_begun moment repo new mount body errors.NoMemory reply h is same = lacks moment repo new (calls.Post mount None body) reply is same
+
+-- a text that is no id
+pub unnamed_patch : (repo : RepoState) (id : Option ℕ) (range : Option Span) (piece : List ℕ) (reply : Reply) → id ≡ None → reply ≡ upload_refusal 0 errors.Unknown → (moment : ℕ)
+    → MayAnswer moment repo (calls.Patch id range piece) reply repo
+unfolding plain
+unnamed_patch repo None range piece reply e is moment = is_plain moment repo repo (calls.Patch None range piece) reply (stays repo (upload_refusal 0 errors.Unknown)) refl is refl
+unnamed_patch repo (Some id) range piece reply e is moment = cc e
+
+pub unnamed_finish : (moment : ℕ) (repo : RepoState) (id : Option ℕ) (range : Option Span) (digest piece : List ℕ) (reply : Reply) → id ≡ None → reply ≡ upload_refusal 0 errors.Unknown
+    → MayAnswer moment repo (calls.Finish id range digest piece) reply repo
+unfolding plain
+unnamed_finish moment repo None range digest piece reply e is = is_plain moment repo repo (calls.Finish None range digest piece) reply (stays repo (upload_refusal 0 errors.Unknown)) refl is refl
+unnamed_finish moment repo (Some id) range digest piece reply e is = cc e
+
+state_outcome : (repo : RepoState) (id : ℕ) (found : Option OpenUpload) → at_found repo (plain_state repo id) found ≡ stays repo (found_told id found)
+state_outcome repo id None = refl
+state_outcome repo id (Some upload) = refl
+
+-- a GET of an upload is answered as the plain registry does
+pub state_answers : (moment : ℕ) (repo : RepoState) (id : Option ℕ) (reply : Reply) → reply ≡ upload_told id repo.sessions → MayAnswer moment repo (calls.UploadState id) reply repo
+unfolding plain
+state_answers moment repo None reply is = is_plain moment repo repo (calls.UploadState None) reply _ refl is refl
+state_answers moment repo (Some id) reply is = is_plain moment repo repo (calls.UploadState (Some id)) reply _ (state_outcome repo id (map.get repo.sessions.uploads id)) is refl
+
+-- a piece that is refused leads to its refusal, whatever would follow one that is taken
+refused_outcome : (repo : RepoState) (id : ℕ) (found : Option OpenUpload) (range : Option Span) (piece : List ℕ) (outcome : OpenUpload → Outcome) (error : UploadError) → Refuses found range piece error → error ≢ errors.NoMemory
+    → at_found repo (λ upload. if_taken repo id upload range piece (outcome upload)) found ≡ stays repo (upload_refusal id error)
+refused_outcome repo id found range piece outcome errors.Full h other = absurd h
+refused_outcome repo id None range piece outcome errors.Unknown h other = refl
+refused_outcome repo id (Some upload) range piece outcome errors.Unknown h other = cc h
+refused_outcome repo id None range piece outcome (errors.Range end) h other = absurd h
+refused_outcome repo id (Some upload) range piece outcome (errors.Range end) h other =
+    chosen (goes_on range (length upload.bytes) (length piece)) _ _ (isnt _ h.0) ∙ ap (λ n. stays repo (upload_refusal id (errors.Range n))) (sym h.1)
+refused_outcome repo id None range piece outcome errors.TooLarge h other = absurd h
+refused_outcome repo id (Some upload) range piece outcome errors.TooLarge h other =
+    taken (goes_on range (length upload.bytes) (length piece)) _ _ h.0 ∙ chosen (keeps_limit upload piece) _ _ (isnt _ h.1)
+refused_outcome repo id found range piece outcome (errors.Differ digest) h other = absurd h
+refused_outcome repo id found range piece outcome errors.NoMemory h other = absurd (other refl)
+
+-- one that is taken leads to what follows
+taken_outcome : (repo : RepoState) (id : ℕ) (upload : OpenUpload) (range : Option Span) (piece : List ℕ) (outcome : Outcome) → goes_on range (length upload.bytes) (length piece) ≡ true → keeps_limit upload piece ≡ true
+    → if_taken repo id upload range piece outcome ≡ outcome
+taken_outcome repo id upload range piece outcome g k = taken (goes_on range (length upload.bytes) (length piece)) _ _ g ∙ taken (keeps_limit upload piece) _ _ k
+
+-- PATCH of an upload that takes the piece
+abbrev pub patched : RepoState → ℕ → List ℕ → Option OpenUpload → Outcome
+patched repo id piece found = record { reply = Session id (length (bytes_of found) + length piece) 202; repo = with_sessions repo (with_piece repo.sessions id piece) }
+
+patch_outcome : (repo : RepoState) (id : ℕ) (found : Option OpenUpload) (range : Option Span) (piece : List ℕ) → IsTaken found range piece → at_found repo (plain_patch repo range piece id) found ≡ patched repo id piece found
+patch_outcome repo id None range piece h = absurd h
+patch_outcome repo id (Some upload) range piece h = taken_outcome repo id upload range piece _ h.0 h.1
+
+pub patch_made : (repo new : RepoState) (id : ℕ) (range : Option Span) (piece : List ℕ) (reply : Reply) → IsTaken (map.get repo.sessions.uploads id) range piece
+    → reply ≡ Session id (length (bytes_of (map.get repo.sessions.uploads id)) + length piece) 202 → new ≡ with_sessions repo (with_piece repo.sessions id piece)
+    → (moment : ℕ) → MayAnswer moment repo (calls.Patch (Some id) range piece) reply new
+unfolding plain
+patch_made repo new id range piece reply h is same moment =
+    is_plain moment repo new (calls.Patch (Some id) range piece) reply _ (patch_outcome repo id (map.get repo.sessions.uploads id) range piece h) is same
+
+-- PATCH of an upload that is refused
+pub patch_refused : (repo new : RepoState) (id : ℕ) (range : Option Span) (piece : List ℕ) (error : UploadError) (reply : Reply) → Refuses (map.get repo.sessions.uploads id) range piece error
+    → reply ≡ upload_refusal id error → new ≡ repo → (moment : ℕ) → MayAnswer moment repo (calls.Patch (Some id) range piece) reply new
+unfolding plain
+patch_refused repo new id range piece error reply h is same moment = patch_refused_by repo new id range piece error reply h is same moment (or_memory error) where
+  patch_refused_by : (repo new : RepoState) (id : ℕ) (range : Option Span) (piece : List ℕ) (error : UploadError) (reply : Reply) → Refuses (map.get repo.sessions.uploads id) range piece error
+      → reply ≡ upload_refusal id error → new ≡ repo → (moment : ℕ) → (error ≡ errors.NoMemory) ⊎ (error ≢ errors.NoMemory) → MayAnswer moment repo (calls.Patch (Some id) range piece) reply new
+  patch_refused_by repo new id range piece error reply h is same moment (inl memory) = lacks moment repo new (calls.Patch (Some id) range piece) reply (is ∙ ap (upload_refusal id) memory) same
+  patch_refused_by repo new id range piece error reply h is same moment (inr other) =
+      is_plain moment repo new (calls.Patch (Some id) range piece) reply _ (refused_outcome repo id (map.get repo.sessions.uploads id) range piece _ error h other) is same
+
+-- ---- the last piece of an upload
+
+-- a last piece that is refused as any piece, or for the digest, leads to its refusal
+whole_refused_outcome : (moment : ℕ) (repo : RepoState) (id : ℕ) (found : Option OpenUpload) (range : Option Span) (digest piece : List ℕ) (error : UploadError) → RefusesWhole found range piece digest error → error ≢ errors.NoMemory
+    → at_found repo (plain_finish moment repo range digest piece id) found ≡ stays repo (upload_refusal id error)
+whole_refused_outcome moment repo id None range digest piece (errors.Differ other) h differs = absurd h
+whole_refused_outcome moment repo id (Some upload) range digest piece (errors.Differ other) h differs =
+    taken_outcome repo id upload range piece _ h.0 h.1
+    ∙ chosen (is_sound digest (upload.bytes ++ piece)) _ _ (unsound digest (upload.bytes ++ piece) (λ is. h.3 (h.2 ∙ sym is)))
+whole_refused_outcome moment repo id found range digest piece errors.NoMemory h differs = absurd (differs refl)
+whole_refused_outcome moment repo id found range digest piece errors.Full h differs = absurd h
+whole_refused_outcome moment repo id found range digest piece errors.Unknown h differs = refused_outcome repo id found range piece _ errors.Unknown h differs
+whole_refused_outcome moment repo id found range digest piece (errors.Range end) h differs = refused_outcome repo id found range piece _ (errors.Range end) h differs
+whole_refused_outcome moment repo id found range digest piece errors.TooLarge h differs = refused_outcome repo id found range piece _ errors.TooLarge h differs
+
+-- PUT of an upload that is refused
+pub finish_refused : (moment : ℕ) (repo : RepoState) (id : ℕ) (range : Option Span) (digest piece : List ℕ) (error : UploadError) (reply : Reply) → RefusesWhole (map.get repo.sessions.uploads id) range piece digest error
+    → reply ≡ upload_refusal id error → MayAnswer moment repo (calls.Finish (Some id) range digest piece) reply repo
+unfolding plain
+finish_refused moment repo id range digest piece error reply h is = finish_refused_by moment repo id range digest piece error reply h is (or_memory error) where
+  finish_refused_by : (moment : ℕ) (repo : RepoState) (id : ℕ) (range : Option Span) (digest piece : List ℕ) (error : UploadError) (reply : Reply) → RefusesWhole (map.get repo.sessions.uploads id) range piece digest error
+      → reply ≡ upload_refusal id error → (error ≡ errors.NoMemory) ⊎ (error ≢ errors.NoMemory) → MayAnswer moment repo (calls.Finish (Some id) range digest piece) reply repo
+  finish_refused_by moment repo id range digest piece error reply h is (inl memory) = lacks moment repo repo (calls.Finish (Some id) range digest piece) reply (is ∙ ap (upload_refusal id) memory) refl
+  finish_refused_by moment repo id range digest piece error reply h is (inr other) =
+      is_plain moment repo repo (calls.Finish (Some id) range digest piece) reply _ (whole_refused_outcome moment repo id (map.get repo.sessions.uploads id) range digest piece error h other) is refl
+
+-- the blob of all bytes, and an upload less
+whole_outcome : (moment : ℕ) (repo : RepoState) (id : ℕ) (found : Option OpenUpload) (range : Option Span) (digest piece : List ℕ) → IsWhole found range piece digest
+    → at_found repo (plain_finish moment repo range digest piece id) found
+    ≡ record { reply = BlobMade digest; repo = with_blob moment (with_sessions repo (without repo.sessions id)) digest (bytes_of found ++ piece) }
+whole_outcome moment repo id None range digest piece h = absurd h
+whole_outcome moment repo id (Some upload) range digest piece h =
+    taken_outcome repo id upload range piece _ h.0 h.1 ∙ taken (is_sound digest (upload.bytes ++ piece)) _ _ (sound digest (upload.bytes ++ piece) h.2)
+
+-- PUT of an upload whose digest is right
+pub finish_made : (moment : ℕ) (repo new : RepoState) (id : ℕ) (range : Option Span) (digest piece bytes : List ℕ) (reply : Reply) → IsWhole (map.get repo.sessions.uploads id) range piece digest
+    → bytes ≡ bytes_of (map.get repo.sessions.uploads id) ++ piece → EndsWith moment repo id digest bytes reply new → MayAnswer moment repo (calls.Finish (Some id) range digest piece) reply new
+unfolding plain
+finish_made moment repo new id range digest piece bytes reply h are (inl made) =
+    is_plain moment repo new (calls.Finish (Some id) range digest piece) reply _ (whole_outcome moment repo id (map.get repo.sessions.uploads id) range digest piece h) made.0
+    (made.1 ∙ ap (with_blob moment (with_sessions repo (without repo.sessions id)) digest) are)
+finish_made moment repo new id range digest piece bytes reply h are (inr memory) = lacks moment repo new (calls.Finish (Some id) range digest piece) reply memory.0 memory.1
+
+-- ---- other calls
+
+plain_unbuilt : (moment : ℕ) (repo : RepoState) (call : Call) → ((digest : List ℕ) → call ≢ calls.GetBlob digest) → ((digest : List ℕ) → call ≢ calls.HeadBlob digest)
+    → ((mount : Option Mount) (digest : Option (List ℕ)) (body : List ℕ) → call ≢ calls.Post mount digest body) → ((id : Option ℕ) → call ≢ calls.UploadState id)
+    → ((id : Option ℕ) (range : Option Span) (body : List ℕ) → call ≢ calls.Patch id range body) → ((id : Option ℕ) (range : Option Span) (digest body : List ℕ) → call ≢ calls.Finish id range digest body)
+    → plain moment repo call ≡ stays repo not_built
+unfolding plain
+plain_unbuilt moment repo calls.Base g h p s u f = refl
+plain_unbuilt moment repo (calls.GetBlob digest) g h p s u f = absurd (g digest refl)
+plain_unbuilt moment repo (calls.HeadBlob digest) g h p s u f = absurd (h digest refl)
+plain_unbuilt moment repo (calls.DeleteBlob digest) g h p s u f = refl
+plain_unbuilt moment repo (calls.Post mount digest body) g h p s u f = absurd (p mount digest body refl)
+plain_unbuilt moment repo (calls.Patch id range body) g h p s u f = absurd (u id range body refl)
+plain_unbuilt moment repo (calls.Finish id range digest body) g h p s u f = absurd (f id range digest body refl)
+plain_unbuilt moment repo (calls.UploadState id) g h p s u f = absurd (s id refl)
+plain_unbuilt moment repo (calls.PutManifest reference media body) g h p s u f = refl
+plain_unbuilt moment repo (calls.GetManifest reference) g h p s u f = refl
+plain_unbuilt moment repo (calls.HeadManifest reference) g h p s u f = refl
+plain_unbuilt moment repo (calls.DeleteManifest reference) g h p s u f = refl
+plain_unbuilt moment repo (calls.Tags n last) g h p s u f = refl
+plain_unbuilt moment repo (calls.Referrers digest filter) g h p s u f = refl
 
 -- a call of another kind isn't built yet
-pub unbuilt_call : (row : RowState) (name : List ℕ) (call : Call) (reply : Reply) → ((digest : List ℕ) → call ≢ GetBlob digest) → ((digest : List ℕ) → call ≢ HeadBlob digest)
-    → ((mount : Option Mount) (digest : Option (List ℕ)) (body : List ℕ) → call ≢ Post mount digest body) → reply ≡ not_built → MayReply 0 row name call reply row
-unbuilt_call row name call reply g h p is = unbuilt row name call reply (plain_unbuilt (repo_at row name) call g h p) is
+pub unbuilt : (moment : ℕ) (repo : RepoState) (call : Call) (reply : Reply) → ((digest : List ℕ) → call ≢ calls.GetBlob digest) → ((digest : List ℕ) → call ≢ calls.HeadBlob digest)
+    → ((mount : Option Mount) (digest : Option (List ℕ)) (body : List ℕ) → call ≢ calls.Post mount digest body) → ((id : Option ℕ) → call ≢ calls.UploadState id)
+    → ((id : Option ℕ) (range : Option Span) (body : List ℕ) → call ≢ calls.Patch id range body) → ((id : Option ℕ) (range : Option Span) (digest body : List ℕ) → call ≢ calls.Finish id range digest body)
+    → reply ≡ not_built → MayAnswer moment repo call reply repo
+unbuilt moment repo call reply g h p s u f is = is_plain moment repo repo call reply (stays repo not_built) (plain_unbuilt moment repo call g h p s u f) is refl
+
+-- ---- on a table
+
+-- a call on the repository that a table has
+pub replies_at : (moment : ℕ) (old new : RowState) (name : List ℕ) (call : Call) (reply : Reply) (found after : RepoState) → repo_at old name ≡ found → Becomes old name after new → MayAnswer moment found call reply after
+    → MayReply moment old name call reply new
+replies_at moment old new name call reply found after has becomes h = (after, becomes, subst (λ (r : RepoState). MayAnswer moment r call reply after) (sym has) h)
+
+-- a call that leaves a fresh repository as it is
+pub replies_fresh : (moment : ℕ) (row : RowState) (name : List ℕ) (call : Call) (reply : Reply) (found after : RepoState) → repo_at row name ≡ fresh → found ≡ fresh → after ≡ fresh → MayAnswer moment found call reply after
+    → MayReply moment row name call reply row
+replies_fresh moment row name call reply found after has is left h =
+    replies_at moment row row name call reply found after (has ∙ sym is) (subst (λ (r : RepoState). Becomes row name r row) (has ∙ sym left) (becomes_itself row name)) h
+
+-- memory ran out, and the table is as it was
+pub replies_lacking : (moment : ℕ) (old new : RowState) (name : List ℕ) (call : Call) (reply : Reply) → new ≡ old → reply ≡ no_memory → MayReply moment old name call reply new
+replies_lacking moment old new name call reply same is =
+    (repo_at old name, subst (λ (row : RowState). Becomes old name (repo_at old name) row) (sym same) (becomes_itself old name), lacks moment (repo_at old name) (repo_at old name) call reply is refl)
+
+-- a reply fits the request that it answers
+pub reply_fits : (moment : ℕ) (old new : RowState) (name : List ℕ) (call : Call) (reply : Reply) → MayReply moment old name call reply new → call ≢ calls.Base → FitsCall call reply
+reply_fits moment old new name call reply h named = answer_fits moment (repo_at old name) h.0 call reply h.2 named

@@ -1,6 +1,6 @@
 -- A tree of repositories, seen as the plain table.
 use Rattle.std.proofs.Common.{◌≡◌, ◌≢◌, ℕ, Bool, true, false, cond, List, Option, Some, unwrap_or, refl, sym, ap, ◌∙◌, subst}
-use Rattle.std.specs.Prelude.{IsSome, OnErr, OnOk, Result, Ok, Err}
+use Rattle.std.specs.Prelude.{IsSome}
 use Rattle.std.specs.Ordering.{eq_by_cmp}
 use Rattle.std.specs.BTreeMap.{is_at}
 use Rattle.std.specs.Cmp.{Equal-is}
@@ -43,14 +43,6 @@ becomes_from_write es fs old name repo is here others = record {
 -- a table becomes itself
 pub becomes_itself : (row : RowState) (name : List ℕ) → Becomes row name (repo_at row name) row
 becomes_itself row name = record { here = refl; others = λ other differs. refl; faults = refl }
-
-pub on_ok : {T E : Type 0} (r : Result T E) (P Q : Type 0) → OnOk r P → (P → Q) → OnOk r Q
-on_ok (Ok x) P Q h f = f h
-on_ok (Err e) P Q h f = tt
-
-pub on_err : {T E : Type 0} (r : Result T E) (P Q : Type 0) → OnErr r P → (P → Q) → OnErr r Q
-on_err (Ok x) P Q h f = tt
-on_err (Err e) P Q h f = f h
 
 -- a repository written at a name of a tree
 pub becomes_from_writes : (es fs : List (List ℕ × RepoState)) (old : RowState) (name : List ℕ) (found written repo : RepoState) → row_of es ≡ old

@@ -1,14 +1,16 @@
 -- What the parts of a table's step say.
-use Rattle.std.specs.Prelude.{◌≡◌, ℕ, List, Option, ◌⊎◌}
+use Rattle.std.specs.Prelude.{◌≡◌, ℕ, List, length, Option, Some, None, ◌⊎◌}
+use Rattle.std.specs.FinMap as map
 use Rattle.zot_digest.specs.Digest.{IsSound}
 use Rattle.zot_model.specs.declared.call.Call.{Call}
-use Rattle.zot_model.specs.declared.code.Code.TheVariants.{DigestInvalid}
+use Rattle.zot_model.specs.declared.code.Code.TheVariants.{BlobUploadUnknown, DigestInvalid}
 use Rattle.zot_model.specs.declared.reply.Reply.{Reply}
-use Rattle.zot_model.specs.declared.reply.Reply.TheVariants.{Blob, BlobMade}
+use Rattle.zot_model.specs.declared.reply.Reply.TheVariants.{Blob, BlobMade, Session}
 use Rattle.zot_model.specs.declared.stored.Stored.{Stored}
-use Rattle.zot_model.specs.Plain.{MayAnswer, found_or, with_blob}
+use Rattle.zot_model.specs.Plain.{MayAnswer, found_or, with_blob, with_sessions}
 use Rattle.zot_model.specs.Reply.{no_memory, refusal}
 use Rattle.zot_model.specs.State.{Becomes, RepoState, RowState, repo_at}
+use Rattle.zot_model.specs.Uploads.{OpenUpload, UploadTable, without}
 
 -- the call may be answered so on the repository of that name, and leads from the old table to the new one
 abbrev pub MayReply : ℕ → RowState → List ℕ → Call → Reply → RowState → Type 0
@@ -19,8 +21,23 @@ abbrev pub GivesBlob : Option Stored → List ℕ → Reply → Type 0
 GivesBlob found digest reply = (reply ≡ found_or (λ stored. Blob digest stored.bytes) found) ⊎ (reply ≡ no_memory)
 
 -- the blob is refused for its digest, or stored, or memory ran out
-abbrev pub TakesBlob : RowState → List ℕ → List ℕ → List ℕ → Reply → RowState → Type 0
-TakesBlob old name digest body reply new =
+abbrev pub TakesBlob : ℕ → RepoState → List ℕ → List ℕ → Reply → RepoState → Type 0
+TakesBlob moment old digest body reply new =
     ((¬ IsSound digest body) × (reply ≡ refusal 400 DigestInvalid) × (new ≡ old))
-    ⊎ (IsSound digest body × (reply ≡ BlobMade digest) × Becomes old name (with_blob 0 (repo_at old name) digest body) new)
-    ⊎ ((reply ≡ no_memory) × Becomes old name (repo_at old name) new)
+    ⊎ (IsSound digest body × (reply ≡ BlobMade digest) × (new ≡ with_blob moment old digest body))
+    ⊎ ((reply ≡ no_memory) × (new ≡ old))
+
+-- what is told of the upload that was found under an id, where there is one
+abbrev pub found_told : ℕ → Option OpenUpload → Reply
+found_told id None = refusal 404 BlobUploadUnknown
+found_told id (Some upload) = Session id (length upload.bytes) 204
+
+-- what is told of the upload that an id names; a text that is no id names none
+abbrev pub upload_told : Option ℕ → UploadTable → Reply
+upload_told None sessions = refusal 404 BlobUploadUnknown
+upload_told (Some id) sessions = found_told id (map.get sessions.uploads id)
+
+-- the bytes became a blob and the upload ended, or memory ran out
+abbrev pub EndsWith : ℕ → RepoState → ℕ → List ℕ → List ℕ → Reply → RepoState → Type 0
+EndsWith moment old id digest bytes reply new =
+    ((reply ≡ BlobMade digest) × (new ≡ with_blob moment (with_sessions old (without old.sessions id)) digest bytes)) ⊎ ((reply ≡ no_memory) × (new ≡ old))

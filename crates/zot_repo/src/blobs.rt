@@ -1,53 +1,99 @@
-//! The blobs of one repository.
-ghost use Rattle.std.specs.Prelude.{◌≡◌, true, OnOk, OnErr, IfOk, Some, None, option_map, option_copied};
+//! What is answered to requests on blobs.
+ghost use Rattle.std.specs.Prelude.{◌≡◌, OnOk, OnErr, length, Option, option_copied};
 ghost use Rattle.std.specs.FinMap as map;
-ghost use Rattle.zot_model.specs.State.{fresh};
+ghost use Rattle.zot_model.specs.Plain.{MayAnswer, found_or, with_blob};
+ghost use Rattle.zot_model.specs.declared.call.Call.TheVariants as calls;
+ghost use Rattle.zot_model.specs.declared.mount.Mount.{Mount};
+ghost use Rattle.zot_model.specs.declared.reply.Reply.TheVariants.{BlobHead};
+ghost use Rattle.zot_repo.specs.Replies.{GivesBlob, TakesBlob};
 
+use crate::repository::Repository;
 use std::alloc::{AllocError, Global};
-use std::collections::BTreeMap;
-use std::marker::Model;
-use zot_digest::{Bytes, Digest};
-use zot_model::Stored;
+use zot_digest::{Bytes, Digest, digest_of};
+use zot_model::{Code, Reply, Stored};
 
-/// A repository: whether it is known, and its blobs in a tree by their digests. Contracts see the plain repository.
-#[derive(Drop)]
-pub struct Blobs {
-    known: bool,
-    stored: BTreeMap<Digest, Stored>,
-}
-
-impl Model for Blobs {
-    ghost use Rattle.zot_digest.specs.ByteMap.{map_of};
-    ghost use Rattle.zot_model.specs.State.{RepoState, repo_code};
-
-    ghost Value = { RepoState };
-
-    ghost coded = { repo_code };
-
-    ghost view = { λ b. record { known = b.known; blobs = map_of b.stored.entries } };
-}
-
-impl Blobs {
-    ghost use Rattle.zot_model.specs.Plain.{with_blob};
-
-    /// A repository that nobody has stored anything in. Takes no memory.
-    pub fn new(alloc: Global) -> Self
-        ensures { result ≡ fresh }
+impl Repository {
+    /// The reply to a GET of a blob: a copy of its bytes.
+    pub fn get_blob(&self, alloc: Global, digest: &Digest) -> Reply
+        ensures { GivesBlob (map.get self.now.blobs digest.now) digest.now result }
     {
-        Blobs {
-            known: false,
-            stored: BTreeMap::new(alloc),
+        let Some(stored) = self.blob(digest) else {
+            return Reply::refused(404, Code::BlobUnknown);
+        };
+        match stored.bytes.copy(alloc) {
+            Ok(bytes) => Reply::Blob {
+                digest: *digest,
+                bytes,
+            },
+            Err(_) => Reply::refused(503, Code::NoMemory),
         }
     }
 
-    /// The blob of a digest.
-    pub fn get(&self, digest: &Digest) -> Option<&Stored>
+    /// The reply to a HEAD of a blob. Takes no memory.
+    pub fn head_blob(&self, digest: &Digest) -> Reply
+        ensures { result ≡ found_or (λ stored. BlobHead digest.now (length stored.bytes)) (map.get self.now.blobs digest.now) }
+    {
+        match self.blob(digest) {
+            Some(stored) => Reply::BlobHead {
+                digest: *digest,
+                size: stored.bytes.as_slice().len() as u64,
+            },
+            None => Reply::refused(404, Code::BlobUnknown),
+        }
+    }
+
+    /// The reply to a POST, whatever blob may be taken over: of a blob with its digest, or of a new upload.
+    pub fn post(
+        &mut self,
+        alloc: Global,
+        digest: &Option<Digest>,
+        body: &Bytes,
+        moment: u64,
+    ) -> Reply
+        ensures { (mount : Option Mount) → MayAnswer moment self.old (calls.Post mount digest.now body.now) result self.new }
+    {
+        match digest {
+            Some(digest) => self.post_blob(alloc, digest, body, moment),
+            None => self.begin(alloc, moment),
+        }
+    }
+
+    // The reply to a POST of a blob with its digest, of which a copy is stored.
+    fn post_blob(&mut self, alloc: Global, digest: &Digest, body: &Bytes, moment: u64) -> Reply
+        ensures { TakesBlob moment self.old digest.now body.now result self.new }
+    {
+        if digest_of(body.as_slice()) != *digest {
+            return Reply::refused(400, Code::DigestInvalid);
+        }
+        match self.put_copy(alloc, digest, body, moment) {
+            Ok(()) => Reply::BlobMade { digest: *digest },
+            Err(_) => Reply::refused(503, Code::NoMemory),
+        }
+    }
+
+    // The blob of a digest.
+    fn blob(&self, digest: &Digest) -> Option<&Stored>
         ensures { option_copied result ≡ map.get self.now.blobs digest.now }
     {
         self.stored.get(digest)
     }
 
-    /// Stores a blob, which makes the repository known. After an `Err` the repository is as it was.
+    // Stores a copy of a blob. After an `Err` the repository is as it was.
+    fn put_copy(
+        &mut self,
+        alloc: Global,
+        digest: &Digest,
+        body: &Bytes,
+        moment: u64,
+    ) -> Result<(), AllocError>
+        ensures ok { OnOk result (self.new ≡ with_blob moment self.old digest.now body.now) }
+        ensures err { OnErr result (self.new ≡ self.old) }
+    {
+        let bytes = body.copy(alloc)?;
+        self.put(*digest, bytes, moment)
+    }
+
+    /// Stores a blob that arrives at the moment, which makes the repository known. After an `Err` the repository is as it was.
     pub fn put(&mut self, digest: Digest, bytes: Bytes, moment: u64) -> Result<(), AllocError>
         ensures ok { OnOk result (self.new ≡ with_blob moment self.old digest bytes) }
         ensures err { OnErr result (self.new ≡ self.old) }

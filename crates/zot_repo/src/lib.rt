@@ -2,8 +2,10 @@
 #![tactic(auto)]
 
 mod blobs;
+mod repository;
 mod shard;
 #[cfg(test)]
 mod tests;
+mod uploads;
 
 pub use crate::shard::RepoShard;

@@ -2,7 +2,7 @@ use Rattle.std.proofs.Common.{sym, ap, ◌∙◌}
 use Rattle.std.specs.FinMap as map
 use Rattle.zot_digest.proofs.ByteMapLemmas.{get-map_of}
 use Rattle.zot_model.specs.State.{RepoState}
-use Rattle.zot_repo.proofs.blobs.Blobs.get.Goals as goal
+use Rattle.zot_repo.proofs.repository.Repository.blob.Goals as goal
 
 pub returns : goal.returns
 returns c =

@@ -1,0 +1,23 @@
+use Rattle.std.proofs.Common.{refl, sym}
+use Rattle.zot_repo.proofs.ReplyLemmas.{at_call, get_answers, head_answers, state_answers, unbuilt}
+use Rattle.zot_repo.proofs.repository.Repository.answer.Goals as goal
+
+pub returns-in-GetBlob : goal.returns-in-GetBlob
+returns-in-GetBlob c =
+    at_call c.args.moment c.args.self.now c.args.self.now c.args.self.now c.args.call.now _ c.get_blob.result refl (sym c.in-GetBlob.is)
+    (get_answers c.args.moment c.args.self.now c.in-GetBlob.digest c.get_blob.result c.get_blob.ensures)
+
+pub returns-in-HeadBlob : goal.returns-in-HeadBlob
+returns-in-HeadBlob c =
+    at_call c.args.moment c.args.self.now c.args.self.now c.args.self.now c.args.call.now _ c.head_blob.result refl (sym c.in-HeadBlob.is)
+    (head_answers c.args.moment c.args.self.now c.in-HeadBlob.digest c.head_blob.result c.head_blob.ensures)
+
+pub returns-in-UploadState : goal.returns-in-UploadState
+returns-in-UploadState c =
+    at_call c.args.moment c.args.self.now c.args.self.now c.args.self.now c.args.call.now _ c.upload_state.result refl (sym c.in-UploadState.is)
+    (state_answers c.args.moment c.args.self.now c.in-UploadState.id c.upload_state.result c.upload_state.ensures)
+
+pub returns-in_default : goal.returns-in_default
+returns-in_default c =
+    unbuilt c.args.moment c.args.self.now c.args.call.now c.refused.result c.in_default.not-GetBlob c.in_default.not-HeadBlob (λ mount digest body. c.in_default.not-Post mount digest body)
+    c.in_default.not-UploadState (λ id range body. c.in_default.not-Patch id range body) (λ id range digest body. c.in_default.not-Finish id range digest body) c.refused.ensures
