@@ -11,7 +11,7 @@ use Rattle.zot_model.specs.declared.span.Span.{Span}
 use Rattle.zot_model.specs.declared.stored.Stored.{Stored}
 use Rattle.zot_model.specs.Fits.{FitsCall, IsAmong, codes_of, common_codes}
 use Rattle.zot_model.specs.Pieces.{goes_on, keeps_limit}
-use Rattle.zot_model.specs.Plain.{MayAnswer, Outcome, at_found, at_upload, if_taken, plain, plain_begin, plain_finish, plain_get, plain_head, plain_patch, plain_post, plain_state, plain_whole}
+use Rattle.zot_model.specs.Plain.{MayAnswer, Outcome, at_found, plain, plain_begin, plain_finish, plain_get, plain_head, plain_patch, plain_post, plain_state}
 use Rattle.zot_model.specs.Reply.{no_memory, not_built}
 use Rattle.zot_model.specs.State.{RepoState}
 use Rattle.zot_model.specs.Uploads.{OpenUpload, is_full}

@@ -1,5 +1,8 @@
 //! Each public call once, and values that differ.
-use crate::{Call, Code, Detail, Methods, Mount, Reply, Request, RowCall, RowReply, Span, Stored, answers_fit};
+use crate::{
+    Call, Code, Detail, Methods, Mount, Reply, Request, RowCall, RowReply, Span, Stored,
+    answers_fit,
+};
 use std::test::Fail;
 use zot_digest::{Bytes, digest_of};
 use zot_media::Reference;

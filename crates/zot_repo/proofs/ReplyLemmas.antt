@@ -5,19 +5,19 @@ use Rattle.std.proofs.lemmas.Slice.Eq.{bytes_eq-Decides}
 use Rattle.zot_digest.specs.Digest.{IsSound, is_sound}
 use Rattle.zot_model.specs.declared.call.Call.{Call}
 use Rattle.zot_model.specs.declared.call.Call.TheVariants as calls
-use Rattle.zot_model.specs.declared.code.Code.TheVariants.{DigestInvalid, TooManyRequests}
+use Rattle.zot_model.specs.declared.code.Code.TheVariants.{TooManyRequests}
 use Rattle.zot_model.specs.declared.mount.Mount.{Mount}
 use Rattle.zot_model.specs.declared.reply.Reply.{Reply}
-use Rattle.zot_model.specs.declared.reply.Reply.TheVariants.{Blob, BlobHead, BlobMade, Session}
+use Rattle.zot_model.specs.declared.reply.Reply.TheVariants.{BlobHead, BlobMade, Session}
 use Rattle.zot_model.specs.declared.span.Span.{Span}
 use Rattle.zot_model.specs.Pieces.{goes_on, keeps_limit}
-use Rattle.zot_model.specs.Plain.{LacksMemory, MayAnswer, Outcome, at_found, at_upload, found_or, if_taken, plain, plain_begin, plain_finish, plain_patch, plain_state, plain_whole, stays, with_blob, with_sessions, with_upload}
+use Rattle.zot_model.specs.Plain.{MayAnswer, Outcome, at_found, found_or, if_taken, plain, plain_finish, plain_patch, plain_state, stays, with_blob, with_sessions, with_upload}
 use Rattle.zot_model.specs.Reply.{no_memory, not_built, refusal}
 use Rattle.zot_model.proofs.FitLemmas.{answer_fits}
 use Rattle.zot_model.specs.Fits.{FitsCall}
 use Rattle.zot_model.specs.State.{Becomes, RepoState, RowState, fresh, repo_at}
 use Rattle.zot_repo.proofs.RowLemmas.{becomes_itself}
-use Rattle.zot_model.specs.Uploads.{OpenUpload, bytes_of, is_full, with_new, with_piece, without}
+use Rattle.zot_model.specs.Uploads.{OpenUpload, bytes_of, is_full, with_piece, without}
 use Rattle.zot_repo.specs.Refusals.{new_refusal, upload_refusal}
 use Rattle.zot_repo.specs.Replies.{EndsWith, GivesBlob, MayReply, TakesBlob, found_told, upload_told}
 use Rattle.zot_uploads.specs.Cases.{IsTaken, IsWhole, Refuses, RefusesNew, RefusesWhole}

@@ -1,7 +1,6 @@
 -- The program's words, what a command did, its status and its line on notes.
 use Rattle.std.specs.Prelude.{◌≡◌, ℕ, List, [], ◌∷◌, ◌++◌, Option, Some, None, IfSome, ◌⊎◌, codes}
 use Rattle.std.specs.Fmt.{decimal}
-use Rattle.zot_model.specs.History.{Run}
 use Rattle.zot_model.specs.State.{RowState, empty_row}
 use Rattle.zot_session.specs.declared.end.End.{End}
 use Rattle.zot_session.specs.declared.end.End.TheVariants as ends
@@ -9,7 +8,7 @@ use Rattle.zot_session.specs.Ends.{EndsAs, HasFailed}
 use Rattle.zot_outside.specs.Faults.{Rose}
 use Rattle.zot_outside.specs.Streams.{Appends}
 use Rattle.zot_session.specs.Session.{Served, WritesPart}
-use Rattle.zotd.specs.Entries.{entries_of}
+use Rattle.zotd.specs.Entries.{Records}
 
 -- the words of `pipe`
 unfoldable pub pipe_words : List (List ℕ)
@@ -57,8 +56,8 @@ abbrev pub Notes : List ℕ → Option (List ℕ) → Option (List ℕ) → ℕ 
 Notes text before after faults_before faults_after =
     (Appends before text after × (faults_after ≡ faults_before)) ⊎ (WritesPart before text after × Rose faults_before faults_after)
 
--- a connection was served over a table that was empty before, and ended so: where nothing failed, as its bytes say
-pub record Pipes (end : End) (left_before left_after held_before held_after : Option (List ℕ)) : Type 0 where
+-- a connection was served over a table that was empty before, at the moment that a clock tells, and ended so: where nothing failed, as its bytes say
+pub record Pipes (told : Option ℕ) (end : End) (left_before left_after held_before held_after : Option (List ℕ)) : Type 0 where
   pub table : RowState
-  pub served : Served (λ exchanges. Run empty_row (entries_of 0 exchanges) table) end left_before left_after held_before held_after
+  pub served : Served (λ exchanges. Records told empty_row exchanges table) end left_before left_after held_before held_after
   pub of_bytes : ¬ HasFailed end → IfSome left_before (λ bytes. EndsAs bytes end)

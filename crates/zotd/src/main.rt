@@ -13,16 +13,18 @@ use crate::arguments::{arguments, behind_name};
 use crate::running::{run_unread, run_waiting};
 use std::io::ErrorKind;
 use std::process::ExitCode;
-use zot_outside::{ReaderSource, WriterSink};
+use zot_outside::{ReaderSource, SystemClock, WriterSink};
 
 fn main(rt: HostRuntime) -> ExitCode {
     let mut input = ReaderSource::new(rt.stdin());
     let mut output = WriterSink::new(rt.stdout());
     let mut notes = WriterSink::new(rt.stderr());
+    let mut clock = SystemClock::new(rt);
     let status = match arguments(&rt) {
         Ok(args) => run_waiting(
             rt.alloc(),
             behind_name(args.as_slice()),
+            &mut clock,
             &mut input,
             &mut output,
             &mut notes,

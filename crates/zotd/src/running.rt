@@ -9,25 +9,26 @@ use crate::notes::{note, note_end};
 use crate::status::Status;
 use crate::table::serve_table;
 use std::alloc::Global;
-use zot_outside::{Sink, Source};
+use zot_outside::{Clock, Sink, Source};
 use zot_repo::RepoShard;
 use zot_session::End;
 
-/// Runs the command of these words: `pipe` serves one connection from the input to the output over an empty table in memory. Other words are refused with the status 2, and nothing is read or written to the output for them.
+/// Runs the command of these words: `pipe` serves one connection from the input to the output over an empty table in memory, at the moments of the clock. Other words are refused with the status 2, and nothing is read or written to the output for them.
 #[tactic(auto, unfolding(crate::specs::Program::words_line))]
-pub fn run_waiting<C: Source, K: Sink, N: Sink>(
+pub fn run_waiting<T: Clock, C: Source, K: Sink, N: Sink>(
     alloc: Global,
     words: &[String],
+    clock: &mut T,
     input: &mut C,
     output: &mut K,
     notes: &mut N,
 ) -> Status
     ensures pipe { map string_bytes words.now ≡ pipe_words → (end : AnEnd)
-        × Pipes end (C.left input.old) (C.left input.new) (K.held output.old) (K.held output.new)
+        × Pipes (T.moment clock.old) end (C.left input.old) (C.left input.new) (K.held output.old) (K.held output.new)
         × (result.code ≡ status_of end)
         × Notes (line_of end) (N.held notes.old) (N.held notes.new) (N.faults notes.old) (N.faults notes.new) }
     ensures words { map string_bytes words.now ≢ pipe_words → (result.code ≡ words_status)
-        × (input.new ≡ input.old) × (output.new ≡ output.old)
+        × (clock.new ≡ clock.old) × (input.new ≡ input.old) × (output.new ≡ output.old)
         × Notes words_line (N.held notes.old) (N.held notes.new) (N.faults notes.old) (N.faults notes.new) }
     ensures read_fault { result.code ≡ 5 → Rose (C.faults input.old) (C.faults input.new) }
     ensures read_kept { result.code ≢ 5 → C.faults input.new ≡ C.faults input.old }
@@ -38,7 +39,7 @@ pub fn run_waiting<C: Source, K: Sink, N: Sink>(
         note(notes, b"zotd: words", None);
         return Status { code: 2 };
     }
-    let end = pipe(alloc, input, output);
+    let end = pipe(alloc, clock, input, output);
     note_end(notes, end);
     Status {
         code: status_of(end),
@@ -89,13 +90,18 @@ pub fn status_of(end: End) -> u8
 }
 
 // Serves a connection over an empty table.
-fn pipe<C: Source, K: Sink>(alloc: Global, input: &mut C, output: &mut K) -> End
-    ensures served { Pipes result (C.left input.old) (C.left input.new) (K.held output.old) (K.held output.new) }
+fn pipe<T: Clock, C: Source, K: Sink>(
+    alloc: Global,
+    clock: &mut T,
+    input: &mut C,
+    output: &mut K,
+) -> End
+    ensures served { Pipes (T.moment clock.old) result (C.left input.old) (C.left input.new) (K.held output.old) (K.held output.new) }
     ensures read_fault { result ≡ ends.ReadFault → Rose (C.faults input.old) (C.faults input.new) }
     ensures read_kept { result ≢ ends.ReadFault → C.faults input.new ≡ C.faults input.old }
     ensures write_fault { result ≡ ends.WriteFault → Rose (K.faults output.old) (K.faults output.new) }
     ensures write_kept { result ≢ ends.WriteFault → K.faults output.new ≡ K.faults output.old }
 {
     let mut table = RepoShard::new(alloc);
-    serve_table(alloc, &mut table, input, output)
+    serve_table(alloc, &mut table, clock, input, output)
 }

@@ -5,7 +5,8 @@ use crate::status::Status;
 use crate::table::serve_table;
 use std::alloc::Global;
 use std::test::Fail;
-use zot_fakes::{MemorySink, MemorySource};
+use zot_fakes::{HandClock, MemorySink, MemorySource};
+use zot_outside::Clock;
 use zot_repo::RepoShard;
 use zot_session::End;
 
@@ -36,6 +37,22 @@ const WIRE: &[u8] =
 /// The replies to them.
 const WIRE_REPLIES: &[u8] =
     b"HTTP/1.1 200 OK\r\nDocker-Distribution-Api-Version: registry/2.0\r\nContent-Type: application/json\r\nContent-Length: 2\r\n\r\n{}HTTP/1.1 200 OK\r\nDocker-Distribution-Api-Version: registry/2.0\r\nContent-Type: application/json\r\nContent-Length: 2\r\n\r\nHTTP/1.1 100 Continue\r\n\r\nHTTP/1.1 201 Created\r\nLocation: /v2/a/b/blobs/sha256:44136fa355b3678a1146ad16f7e8649e94fb4fc21fe77e8310c060f61caaff8a\r\nDocker-Content-Digest: sha256:44136fa355b3678a1146ad16f7e8649e94fb4fc21fe77e8310c060f61caaff8a\r\nContent-Length: 0\r\n\r\nHTTP/1.1 200 OK\r\nDocker-Content-Digest: sha256:44136fa355b3678a1146ad16f7e8649e94fb4fc21fe77e8310c060f61caaff8a\r\nContent-Type: application/octet-stream\r\nContent-Length: 2\r\n\r\nHTTP/1.1 404 Not Found\r\nContent-Type: application/json\r\nContent-Length: 61\r\n\r\nHTTP/1.1 501 Not Implemented\r\nContent-Type: application/json\r\nContent-Length: 55\r\n\r\n{\"errors\":[{\"code\":\"NOT_BUILT\",\"message\":\"not built\"}]}HTTP/1.1 405 Method Not Allowed\r\nAllow: GET, HEAD, DELETE\r\nContent-Type: application/json\r\nContent-Length: 59\r\n\r\n{\"errors\":[{\"code\":\"UNSUPPORTED\",\"message\":\"unsupported\"}]}HTTP/1.1 200 OK\r\nDocker-Distribution-Api-Version: registry/2.0\r\nContent-Type: application/json\r\nContent-Length: 2\r\nConnection: close\r\n\r\n{}";
+
+/// Two blobs pushed as docker does: looked for, an upload begun, filled in chunks and ended with its digest, percent-encoded.
+const PUSH: &[u8] =
+    b"HEAD /v2/lib/app/blobs/sha256:ba7816bf8f01cfea414140de5dae2223b00361a396177a9cb410ff61f20015ad HTTP/1.1\r\n\r\nPOST /v2/lib/app/blobs/uploads/ HTTP/1.1\r\nContent-Length: 0\r\n\r\nPATCH /v2/lib/app/blobs/uploads/0000000000000001 HTTP/1.1\r\nTransfer-Encoding: chunked\r\n\r\n3\r\nabc\r\n0\r\n\r\nPUT /v2/lib/app/blobs/uploads/0000000000000001?digest=sha256%3Aba7816bf8f01cfea414140de5dae2223b00361a396177a9cb410ff61f20015ad HTTP/1.1\r\nContent-Length: 0\r\n\r\nHEAD /v2/lib/app/blobs/sha256:44136fa355b3678a1146ad16f7e8649e94fb4fc21fe77e8310c060f61caaff8a HTTP/1.1\r\n\r\nPOST /v2/lib/app/blobs/uploads/ HTTP/1.1\r\nContent-Length: 0\r\n\r\nPATCH /v2/lib/app/blobs/uploads/0000000000000002 HTTP/1.1\r\nTransfer-Encoding: chunked\r\n\r\n2\r\n{}\r\n0\r\n\r\nPUT /v2/lib/app/blobs/uploads/0000000000000002?digest=sha256%3A44136fa355b3678a1146ad16f7e8649e94fb4fc21fe77e8310c060f61caaff8a HTTP/1.1\r\nContent-Length: 0\r\n\r\n";
+
+/// The replies to them.
+const PUSH_REPLIES: &[u8] =
+    b"HTTP/1.1 404 Not Found\r\nContent-Type: application/json\r\nContent-Length: 61\r\n\r\nHTTP/1.1 202 Accepted\r\nLocation: /v2/lib/app/blobs/uploads/0000000000000001\r\nRange: 0-0\r\nDocker-Upload-UUID: 0000000000000001\r\nContent-Length: 0\r\n\r\nHTTP/1.1 202 Accepted\r\nLocation: /v2/lib/app/blobs/uploads/0000000000000001\r\nRange: 0-2\r\nDocker-Upload-UUID: 0000000000000001\r\nContent-Length: 0\r\n\r\nHTTP/1.1 201 Created\r\nLocation: /v2/lib/app/blobs/sha256:ba7816bf8f01cfea414140de5dae2223b00361a396177a9cb410ff61f20015ad\r\nDocker-Content-Digest: sha256:ba7816bf8f01cfea414140de5dae2223b00361a396177a9cb410ff61f20015ad\r\nContent-Length: 0\r\n\r\nHTTP/1.1 404 Not Found\r\nContent-Type: application/json\r\nContent-Length: 61\r\n\r\nHTTP/1.1 202 Accepted\r\nLocation: /v2/lib/app/blobs/uploads/0000000000000002\r\nRange: 0-0\r\nDocker-Upload-UUID: 0000000000000002\r\nContent-Length: 0\r\n\r\nHTTP/1.1 202 Accepted\r\nLocation: /v2/lib/app/blobs/uploads/0000000000000002\r\nRange: 0-1\r\nDocker-Upload-UUID: 0000000000000002\r\nContent-Length: 0\r\n\r\nHTTP/1.1 201 Created\r\nLocation: /v2/lib/app/blobs/sha256:44136fa355b3678a1146ad16f7e8649e94fb4fc21fe77e8310c060f61caaff8a\r\nDocker-Content-Digest: sha256:44136fa355b3678a1146ad16f7e8649e94fb4fc21fe77e8310c060f61caaff8a\r\nContent-Length: 0\r\n\r\n";
+
+/// Two uploads side by side: a piece that doesn't go on, one that does, one without a range, what the first has, its end with a wrong digest and with the right one, what it has then, the end of the second in chunks, and an id that isn't one.
+const RANGES: &[u8] =
+    b"POST /v2/a/blobs/uploads/ HTTP/1.1\r\nContent-Length: 0\r\n\r\nPOST /v2/a/blobs/uploads/ HTTP/1.1\r\nContent-Length: 1\r\n\r\nxPATCH /v2/a/blobs/uploads/0000000000000001 HTTP/1.1\r\nContent-Range: 1-2\r\nContent-Length: 2\r\n\r\nbcPATCH /v2/a/blobs/uploads/0000000000000001 HTTP/1.1\r\nContent-Range: 0-1\r\nContent-Length: 2\r\n\r\nabPATCH /v2/a/blobs/uploads/0000000000000002 HTTP/1.1\r\nContent-Length: 1\r\n\r\n{GET /v2/a/blobs/uploads/0000000000000001 HTTP/1.1\r\n\r\nPUT /v2/a/blobs/uploads/0000000000000001?digest=sha256:44136fa355b3678a1146ad16f7e8649e94fb4fc21fe77e8310c060f61caaff8a HTTP/1.1\r\nContent-Range: 2-2\r\nContent-Length: 1\r\n\r\ncPUT /v2/a/blobs/uploads/0000000000000001?digest=sha256:ba7816bf8f01cfea414140de5dae2223b00361a396177a9cb410ff61f20015ad HTTP/1.1\r\nContent-Range: 2-2\r\nContent-Length: 1\r\n\r\ncGET /v2/a/blobs/uploads/0000000000000001 HTTP/1.1\r\n\r\nPUT /v2/a/blobs/uploads/0000000000000002?digest=sha256:44136fa355b3678a1146ad16f7e8649e94fb4fc21fe77e8310c060f61caaff8a HTTP/1.1\r\nTransfer-Encoding: chunked\r\n\r\n1\r\n}\r\n0\r\n\r\nPATCH /v2/a/blobs/uploads/none HTTP/1.1\r\nContent-Length: 0\r\n\r\n";
+
+/// The replies to them.
+const RANGES_REPLIES: &[u8] =
+    b"HTTP/1.1 202 Accepted\r\nLocation: /v2/a/blobs/uploads/0000000000000001\r\nRange: 0-0\r\nDocker-Upload-UUID: 0000000000000001\r\nContent-Length: 0\r\n\r\nHTTP/1.1 202 Accepted\r\nLocation: /v2/a/blobs/uploads/0000000000000002\r\nRange: 0-0\r\nDocker-Upload-UUID: 0000000000000002\r\nContent-Length: 0\r\n\r\nHTTP/1.1 416 Range Not Satisfiable\r\nLocation: /v2/a/blobs/uploads/0000000000000001\r\nRange: 0-0\r\nDocker-Upload-UUID: 0000000000000001\r\nContent-Type: application/json\r\nContent-Length: 75\r\n\r\n{\"errors\":[{\"code\":\"BLOB_UPLOAD_INVALID\",\"message\":\"blob upload invalid\"}]}HTTP/1.1 202 Accepted\r\nLocation: /v2/a/blobs/uploads/0000000000000001\r\nRange: 0-1\r\nDocker-Upload-UUID: 0000000000000001\r\nContent-Length: 0\r\n\r\nHTTP/1.1 202 Accepted\r\nLocation: /v2/a/blobs/uploads/0000000000000002\r\nRange: 0-0\r\nDocker-Upload-UUID: 0000000000000002\r\nContent-Length: 0\r\n\r\nHTTP/1.1 204 No Content\r\nLocation: /v2/a/blobs/uploads/0000000000000001\r\nRange: 0-1\r\nDocker-Upload-UUID: 0000000000000001\r\n\r\nHTTP/1.1 400 Bad Request\r\nContent-Type: application/json\r\nContent-Length: 65\r\n\r\n{\"errors\":[{\"code\":\"DIGEST_INVALID\",\"message\":\"digest invalid\"}]}HTTP/1.1 201 Created\r\nLocation: /v2/a/blobs/sha256:ba7816bf8f01cfea414140de5dae2223b00361a396177a9cb410ff61f20015ad\r\nDocker-Content-Digest: sha256:ba7816bf8f01cfea414140de5dae2223b00361a396177a9cb410ff61f20015ad\r\nContent-Length: 0\r\n\r\nHTTP/1.1 404 Not Found\r\nContent-Type: application/json\r\nContent-Length: 75\r\n\r\n{\"errors\":[{\"code\":\"BLOB_UPLOAD_UNKNOWN\",\"message\":\"blob upload unknown\"}]}HTTP/1.1 201 Created\r\nLocation: /v2/a/blobs/sha256:44136fa355b3678a1146ad16f7e8649e94fb4fc21fe77e8310c060f61caaff8a\r\nDocker-Content-Digest: sha256:44136fa355b3678a1146ad16f7e8649e94fb4fc21fe77e8310c060f61caaff8a\r\nContent-Length: 0\r\n\r\nHTTP/1.1 404 Not Found\r\nContent-Type: application/json\r\nContent-Length: 75\r\n\r\n{\"errors\":[{\"code\":\"BLOB_UPLOAD_UNKNOWN\",\"message\":\"blob upload unknown\"}]}";
 
 /// What stands where a run ended.
 #[derive(Drop)]
@@ -75,7 +92,15 @@ fn run(
     );
     let mut sink = MemorySink::in_pieces(alloc, piece, failing(alloc, write)?);
     let mut notes = MemorySink::in_pieces(alloc, 3, Vec::new(alloc));
-    let status = run_waiting(alloc, texts.as_slice(), &mut source, &mut sink, &mut notes);
+    let mut clock = HandClock::new(7);
+    let status = run_waiting(
+        alloc,
+        texts.as_slice(),
+        &mut clock,
+        &mut source,
+        &mut sink,
+        &mut notes,
+    );
     Ok(Ran {
         code: status.code,
         output: Vec::from_slice(alloc, sink.written())?,
@@ -140,6 +165,52 @@ fn whole_wire_in_pieces(rt: HostRuntime) -> Result<(), Fail> {
         assert_eq!(rt; ran.code, 0);
         assert!(rt; ran.output.as_slice() == WIRE_REPLIES);
         assert!(rt; ran.notes.is_empty());
+    }
+    Ok(())
+}
+
+#[test]
+fn uploads_in_pieces(rt: HostRuntime) -> Result<(), Fail> {
+    for (input, output) in [(PUSH, PUSH_REPLIES), (RANGES, RANGES_REPLIES)] {
+        for piece in [1, 5, 4_096] {
+            let ran = run(rt.alloc(), &["pipe"], input, piece, 0, 0)?;
+            assert_eq!(rt; ran.code, 0);
+            assert!(rt; ran.output.as_slice() == output);
+            assert!(rt; ran.notes.is_empty());
+        }
+    }
+    Ok(())
+}
+
+/// A clock that counts how often it was asked, and tells nothing.
+#[derive(Clone, Copy)]
+struct CountingClock {
+    asked: u64,
+}
+
+impl Clock for CountingClock {
+    ghost use Rattle.std.specs.Prelude.{None};
+
+    ghost moment = { λ _. None };
+
+    fn now(&mut self) -> u64 {
+        self.asked = self.asked.saturating_add(1);
+        self.asked
+    }
+}
+
+#[test]
+fn one_moment_for_each_request(rt: HostRuntime) -> Result<(), Fail> {
+    let alloc = rt.alloc();
+    for (input, asked) in [(FIRST, 2), (WIRE, 4), (PUSH, 8), (RANGES, 11)] {
+        let mut table = RepoShard::new(alloc);
+        let mut clock = CountingClock { asked: 0 };
+        let mut source = MemorySource::new(Vec::from_slice(alloc, input)?, 64, Vec::new(alloc));
+        let mut sink = MemorySink::in_pieces(alloc, 64, Vec::new(alloc));
+        assert!(rt;
+            serve_table(alloc, &mut table, &mut clock, &mut source, &mut sink) == End::Closed
+        );
+        assert_eq!(rt; clock.asked, asked);
     }
     Ok(())
 }
@@ -290,7 +361,8 @@ fn failing_notes_keep_the_status(rt: HostRuntime) -> Result<(), Fail> {
     let mut source = MemorySource::new(Vec::new(alloc), 4, Vec::new(alloc));
     let mut sink = MemorySink::in_pieces(alloc, 4, Vec::new(alloc));
     let mut notes = MemorySink::in_pieces(alloc, 4, failing(alloc, 2)?);
-    let status = run_waiting(alloc, &[], &mut source, &mut sink, &mut notes);
+    let mut clock = HandClock::new(7);
+    let status = run_waiting(alloc, &[], &mut clock, &mut source, &mut sink, &mut notes);
     assert!(rt; status == Status { code: 2 });
     assert!(rt; notes.written() == b"zotd".as_slice());
     Ok(())
@@ -300,6 +372,7 @@ fn failing_notes_keep_the_status(rt: HostRuntime) -> Result<(), Fail> {
 fn one_table_over_connections(rt: HostRuntime) -> Result<(), Fail> {
     let alloc = rt.alloc();
     let mut table = RepoShard::new(alloc);
+    let mut clock = HandClock::new(7);
     for (input, first_line) in [
         (
             b"GET /v2/b/blobs/sha256:44136fa355b3678a1146ad16f7e8649e94fb4fc21fe77e8310c060f61caaff8a HTTP/1.1\r\nHost: r\r\n\r\n".as_slice(),
@@ -329,7 +402,9 @@ fn one_table_over_connections(rt: HostRuntime) -> Result<(), Fail> {
     ] {
         let mut source = MemorySource::new(Vec::from_slice(alloc, input)?, 32, Vec::new(alloc));
         let mut sink = MemorySink::in_pieces(alloc, 32, Vec::new(alloc));
-        assert!(rt; serve_table(alloc, &mut table, &mut source, &mut sink) == End::Closed);
+        assert!(rt;
+            serve_table(alloc, &mut table, &mut clock, &mut source, &mut sink) == End::Closed
+        );
         assert!(rt; sink.written().starts_with(first_line));
     }
     Ok(())

@@ -1,12 +1,11 @@
-use Rattle.std.proofs.Common.{ℕ, List, ◌++◌, Option, Some, ap, sym, subst, ◌∙◌}
+use Rattle.std.proofs.Common.{ℕ, List, ◌++◌, Option, ap, sym, subst, ◌∙◌}
 use Rattle.std.specs.FinMap as map
 use Rattle.zot_model.specs.declared.call.Call.TheVariants as calls
 use Rattle.zot_model.specs.declared.call.Call.{Call}
 use Rattle.zot_model.specs.Plain.{MayAnswer}
 use Rattle.zot_model.specs.State.{RepoState}
 use Rattle.zot_model.specs.Uploads.{bytes_of}
-use Rattle.zot_repo.proofs.ReplyLemmas.{at_call, finish_made, finish_refused, unnamed_finish}
-use Rattle.zot_repo.specs.Repository.{repo_of}
+use Rattle.zot_repo.proofs.ReplyLemmas.{finish_made, finish_refused, unnamed_finish}
 use Rattle.zot_uploads.specs.Cases.{IsWhole, RefusesWhole}
 use Rattle.zot_repo.proofs.repository.Repository.finish.Goals as goal
 

@@ -1,5 +1,5 @@
 use Rattle.std.proofs.Common.{◌≡◌, Some, None, ap, subst, ◌∙◌}
-use Rattle.zot_model.specs.State.{RowState, fresh, repo_at}
+use Rattle.zot_model.specs.State.{RowState, repo_at}
 use Rattle.zot_repo.proofs.ReplyLemmas.{replies_at}
 use Rattle.zot_repo.proofs.RowLemmas.{becomes_from_writes, repo_at-found, row_of}
 use Rattle.zot_repo.specs.Replies.{MayReply}
