@@ -1,0 +1,6 @@
+pub mod DetailLemmas
+pub mod FoundLemmas
+pub mod MediaTextLemmas
+pub mod PageLemmas
+pub mod ReadingLemmas
+pub mod ReplyingLemmas
