@@ -134,7 +134,7 @@ differ_alike (details.Differ wanted found) (details.Differ wants finds) h k = tt
 differ_alike (details.Differ wanted found) said h k = absurd k
 differ_alike detail said h k = absurd h
 
-unseen_kind : (code : Code) (detail said : Detail) → code ≢ BlobUploadInvalid → HasDetail code detail → HasDetail code said → AreUnseenAlike detail said
+pub unseen_kind : (code : Code) (detail said : Detail) → code ≢ BlobUploadInvalid → HasDetail code detail → HasDetail code said → AreUnseenAlike detail said
 unseen_kind BlobUploadInvalid detail said other h k = absurd (other refl)
 unseen_kind ManifestBlobUnknown detail said other h k = missing_alike detail said h k
 unseen_kind Unsupported detail said other h k = rw (h, k) refl
@@ -143,7 +143,7 @@ unseen_kind UpstreamIncomplete detail said other h k = missing_alike detail said
 unseen_kind UpstreamInvalid detail said other h k = missing_alike detail said h k
 unseen_kind code detail said other h k = nothing_alike detail said h k
 
-real_detail : (detail : Detail) → IsRealDetail detail → IsDetail detail
+pub real_detail : (detail : Detail) → IsRealDetail detail → IsDetail detail
 real_detail (details.Missing digest) h = h
 real_detail (details.Differ wanted found) h = h
 real_detail detail h = tt

@@ -156,7 +156,7 @@ for_linked P f reply h = absurd h
 abbrev pub page_rest : List ℕ → List (List ℕ) → Bool → List ℕ
 page_rest name tags close = body_lines 200 (Some json_media) (length (page_body name tags)) close ++ page_body name tags
 
-page_bytes : (name : List ℕ) (tags : List (List ℕ)) (next : Option (List ℕ)) (n : ℕ) (close : Bool)
+pub page_bytes : (name : List ℕ) (tags : List (List ℕ)) (next : Option (List ℕ)) (n : ℕ) (close : Bool)
     → spelled (parts_of name (replies.Tags tags next n)) false close ≡ (status_line 200 ++ link_field name n next) ++ page_rest name tags close
 unfolding spelled parts_of rest_of shown_body
 page_bytes name tags next n close = refl

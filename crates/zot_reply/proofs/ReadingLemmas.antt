@@ -1,20 +1,18 @@
 -- What stands at a place of some bytes.
-use Rattle.std.proofs.Common.{◌≡◌, ℕ, zero, suc, ◌+◌, ◌<◌, ◌≤◌, ◌^◌, ◌%◌, ◌==◌, true, false, nat_lt, inl, inr, List, [], ◌∷◌, ◌++◌, length, refl, arith, slice_index, get_or}
+use Rattle.std.proofs.Common.{◌≡◌, ℕ, zero, suc, ◌+◌, ◌<◌, ◌≤◌, ◌^◌, ◌%◌, ◌/◌, ◌==◌, Bool, true, false, if◌then◌else◌, nat_lt, inl, inr, List, [], ◌∷◌, ◌++◌, length, refl, subst, arith, slice_index, get_or}
 use Rattle.std.specs.Int.{w64, to_be_bytes}
 use Rattle.std.specs.Prelude.{All, IsUtf8}
 use Rattle.std.proofs.lemmas.Str.{IsUtf8-from_ascii}
-use Rattle.std.proofs.lemmas.List.Elements.{All-append}
 use Rattle.hex.proofs.HexLemmas.{IsAscii-encode_with, length-encode_with}
 use Rattle.hex.specs.Hex.{lower_digits}
 use Rattle.zot_digest.proofs.DigestLemmas.{passes-at}
 use Rattle.zot_names.specs.Upload.{upload_text}
-use Rattle.std.specs.Fmt.{decimal}
+use Rattle.std.specs.Fmt.{decimal, digit_glyph, digits, digits_onto}
 use Rattle.std.specs.List.{before_first, position_or_len}
 use Rattle.std.proofs.Math.Seq.{take-append_seam}
 use Rattle.std.proofs.Math.ListN.{get_or-append}
 use Rattle.std.proofs.lemmas.Bool.{cases_lt}
 use Rattle.std.proofs.lemmas.Bool.Decides.{nat_tests}
-use Rattle.std.proofs.lemmas.Fmt.{decimal_by_steps}
 use Rattle.std.proofs.lemmas.List.{get_or_past, length-append}
 use Rattle.std.proofs.lemmas.List.Sums.{position_or_len_is}
 use Rattle.zot_reply.specs.Reading.{IsFree}
@@ -36,10 +34,6 @@ before_end end text rest free =
 apart : (end c : ℕ) → end < 48 → 48 ≤ c → (c == end) ≡ false
 apart end c low high = grind (arith, nat_tests)
 
-one_high : (c : ℕ) → 48 ≤ c → All (λ c. 48 ≤ c) (c ∷ [])
-one_high c high zero d lt = high
-one_high c high (suc k) d lt = absurd (omega arith)
-
 small_byte : (c : ℕ) → nat_lt c 128 ≡ true → c < 128
 small_byte c h = grind (arith, nat_tests)
 
@@ -47,16 +41,32 @@ small_byte c h = grind (arith, nat_tests)
 abbrev AreHigh : List ℕ → Type 0
 AreHigh text = All (λ c. 48 ≤ c) text
 
-decimal_high : (n : ℕ) → n < 2 ^ 64 → AreHigh (decimal n)
-decimal_high n small =
-    decimal_by_steps (λ n ds. AreHigh ds)
-    (λ n lt. λ k d below. one_high (48 + n) (omega arith) k d below)
-    (λ n ds le h. All-append (λ c. 48 ≤ c) ds ((48 + n % 10) ∷ []) h (one_high (48 + n % 10) (omega arith)))
-    n small
+one_more : (c : ℕ) (text : List ℕ) → 48 ≤ c → AreHigh text → AreHigh (c ∷ text)
+one_more c text high h zero d lt = high
+one_more c text high h (suc k) d lt = h k d (omega (arith, lt))
+
+high_either : (t : Bool) (a b : List ℕ) → AreHigh a → AreHigh b → AreHigh (if t then a else b)
+high_either true a b h k = h
+high_either false a b h k = k
+
+glyph_either : (t : Bool) (d : ℕ) → 48 ≤ (if t then 48 + d else 87 + d)
+glyph_either true d = omega arith
+glyph_either false d = omega arith
+
+high_onto : (k n : ℕ) (text : List ℕ) → AreHigh text → AreHigh (digits_onto k 10 false n text)
+high_onto zero n text h = h
+high_onto (suc k) n text h =
+    let more = one_more (digit_glyph false (n % 10)) text (glyph_either (nat_lt (n % 10) 10) (n % 10)) h in
+    high_either (n / 10 == 0) (digit_glyph false (n % 10) ∷ text) (digits_onto k 10 false (n / 10) (digit_glyph false (n % 10) ∷ text)) more
+    (high_onto k (n / 10) (digit_glyph false (n % 10) ∷ text) more)
+
+decimal_high : (n : ℕ) → AreHigh (decimal n)
+unfolding digits
+decimal_high n = high_onto 64 n [] (λ k d lt. absurd (omega (arith, lt)))
 
 -- no digit is a byte that is lower than they are
-pub decimal_free : (end n : ℕ) → end < 48 → n < 2 ^ 64 → IsFree end (decimal n)
-decimal_free end n low small = λ k lt. apart end (slice_index (decimal n) k) low (decimal_high n small k 0 lt)
+pub decimal_free : (end n : ℕ) → end < 48 → IsFree end (decimal n)
+decimal_free end n low = λ k lt. apart end (slice_index (decimal n) k) low (decimal_high n k 0 lt)
 
 digit_ascii : (i : ℕ) → slice_index lower_digits i < 128
 digit_ascii i =

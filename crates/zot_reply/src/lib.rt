@@ -5,6 +5,7 @@ mod blobs;
 mod codes;
 mod details;
 mod finding;
+mod laws;
 mod manifests;
 mod manifests_made;
 mod pages;
@@ -15,5 +16,6 @@ mod refusals;
 mod replying;
 mod sessions;
 
+pub use crate::laws::only_alike_replies;
 pub use crate::read_reply_error::ReadReplyError;
 pub use crate::replying::read_reply;

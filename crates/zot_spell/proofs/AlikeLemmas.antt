@@ -60,7 +60,7 @@ differ_size wanted found w f =
     rw (plain_text (codes "expected " ++ digest_text wanted ++ codes " found " ++ digest_text found) (differ_plain wanted found w f))
     (simp length-append (omega (arith, digest_length wanted w, digest_length found f)))
 
-unseen_size : (code : Code) (detail said : Detail) → IsDetail detail → IsDetail said → AreUnseenAlike detail said → length (error_body code detail) ≡ length (error_body code said)
+pub unseen_size : (code : Code) (detail said : Detail) → IsDetail detail → IsDetail said → AreUnseenAlike detail said → length (error_body code detail) ≡ length (error_body code said)
 unfolding error_body detail_text
 unseen_size code details.None details.None x y h = refl
 unseen_size code (details.Missing digest) (details.Missing other) x y h = error_size (code_text code) _ _ (message_text code) (digest_size digest x ∙ sym (digest_size other y))
