@@ -1,5 +1,5 @@
 -- No other replies to a request share a spelling.
-use Rattle.std.proofs.Common.{◌≡◌, ◌⊎◌, inl, inr, ℕ, ◌<◌, ◌≤◌, Bool, true, false, List, [], ◌++◌, Some, None, refl, sym, ◌∙◌, arith}
+use Rattle.std.proofs.Common.{◌≡◌, ◌⊎◌, inl, inr, ℕ, ◌<◌, ◌≤◌, Bool, true, false, List, [], ◌++◌, Option, Some, None, refl, sym, ap, subst, ◌∙◌, arith}
 use Rattle.std.proofs.lemmas.List.{append_assoc}
 use Rattle.zot_model.specs.declared.call.Call.{Call}
 use Rattle.zot_model.specs.declared.call.Call.TheVariants as calls
@@ -17,7 +17,7 @@ use Rattle.zot_reply.proofs.CodeLemmas.{high_status}
 use Rattle.zot_reply.proofs.CutLemmas.{same_status}
 use Rattle.zot_reply.proofs.SameLemmas.{AreSpelledAlike, blob_heads_alike, blobs_alike, blobs_made_alike, indexes_alike, manifest_heads_alike, manifests_alike, manifests_made_alike, pages_alike, same_blob_made, same_session, sessions_alike}
 use Rattle.zot_reply.proofs.SameRefusals.{refusals_alike}
-use Rattle.zot_reply.specs.Reading.{IsReal, IsTaken, is_head}
+use Rattle.zot_reply.specs.Reading.{Finds, IsReal, IsTaken, Spells, is_head}
 
 -- ---- statuses
 
@@ -116,3 +116,15 @@ pub alone : (request : Request) (a b : Reply) (c k : Bool) → Fits request a �
     → reply_bytes (Some request) a (is_head request.call) c ≡ reply_bytes (Some request) b (is_head request.call) k → AreAlike (is_head request.call) a b
 unfolding reply_bytes
 alone request a b c k h g x y e = fitting_alike (name_in (Some request)) request.call a b c k h g x y e
+
+-- ---- what is read
+
+-- the reply that is found is like each one that has the bytes
+pub found_alike : (request : Request) (name bytes : List ℕ) (close : Bool) (found : Option Reply) (reply other : Reply) → name ≡ name_in (Some request)
+    → Finds (FitsCall request.call) name (is_head request.call) close bytes found → found ≡ Some reply → IsReal other → Spells request other bytes → AreAlike (is_head request.call) other reply
+unfolding reply_bytes
+found_alike request name bytes close found reply other n h s real spelling =
+    let head = is_head request.call in
+    let f = subst (Finds (FitsCall request.call) name head close bytes) s h in
+    fitting_alike name request.call other reply spelling.close close spelling.fits f.0 real f.2
+    (ap (λ (x : List ℕ). spelled (parts_of x other) head spelling.close) n ∙ sym spelling.is ∙ f.1)

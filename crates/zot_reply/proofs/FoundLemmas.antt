@@ -258,7 +258,7 @@ pub finds : (Kind : Reply → Type 0) (name : List ℕ) (head close : Bool) (byt
     → Confirms name head close bytes reply found → Kind reply
     → ((other : Reply) → IsReal other → Kind other → bytes ≡ spelled (parts_of name other) head close → bytes ≡ spelled (parts_of name reply) head close)
     → Finds Kind name head close bytes found
-finds Kind name head close bytes reply (Some other) c kind covers = (subst Kind (sym c.0) kind, c.1 ∙ ap (λ (r : Reply). spelled (parts_of name r) head close) (sym c.0))
+finds Kind name head close bytes reply (Some other) c kind covers = (subst Kind (sym c.0) kind, c.1 ∙ ap (λ (r : Reply). spelled (parts_of name r) head close) (sym c.0), subst IsReal (sym c.0) c.2)
 finds Kind name head close bytes reply None c kind covers = λ other real k e. c (covers other real k e)
 
 pub finds_ok : {E : Type 0} (Kind : Reply → Type 0) (name : List ℕ) (head close : Bool) (bytes : List ℕ) (reply : Reply) (result : Result (Option Reply) E)

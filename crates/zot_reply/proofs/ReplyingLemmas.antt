@@ -26,10 +26,10 @@ as_among codes code among reply h = absurd h
 
 pub among_found : (name : List ℕ) (head close : Bool) (bytes : List ℕ) (codes : List Code) (code : Code) (found : Option Reply) (reply : Reply)
     → Finds (IsRefusedAs code) name head close bytes found → found ≡ Some reply → IsAmong codes code
-    → IsRefusedAmong codes reply × (bytes ≡ spelled (parts_of name reply) head close)
+    → IsRefusedAmong codes reply × (bytes ≡ spelled (parts_of name reply) head close) × IsReal reply
 among_found name head close bytes codes code found reply h s among =
     let k = subst (Finds (IsRefusedAs code) name head close bytes) s h in
-    (as_among codes code among reply k.0, k.1)
+    (as_among codes code among reply k.0, k.1, k.2)
 
 -- ---- to a request
 

@@ -58,14 +58,14 @@ pub record Spells (request : Request) (reply : Reply) (bytes : List ℕ) : Type 
 abbrev pub Differs : List ℕ → Bool → Bool → List ℕ → Reply → Type 0
 Differs name head close bytes reply = bytes ≢ spelled (parts_of name reply) head close
 
--- of the replies of a kind, the bytes are this one, or they are none
+-- of the replies of a kind, the bytes are this real one, or they are none
 abbrev pub Finds : (Reply → Type 0) → List ℕ → Bool → Bool → List ℕ → Option Reply → Type 0
-Finds Kind name head close bytes (Some reply) = Kind reply × (bytes ≡ spelled (parts_of name reply) head close)
+Finds Kind name head close bytes (Some reply) = Kind reply × (bytes ≡ spelled (parts_of name reply) head close) × IsReal reply
 Finds Kind name head close bytes None = (reply : Reply) → IsReal reply → Kind reply → Differs name head close bytes reply
 
--- a proposed reply is what the bytes are, or it isn't
+-- a proposed reply is real and what the bytes are, or they aren't it
 abbrev pub Confirms : List ℕ → Bool → Bool → List ℕ → Reply → Option Reply → Type 0
-Confirms name head close bytes reply (Some found) = (found ≡ reply) × (bytes ≡ spelled (parts_of name reply) head close)
+Confirms name head close bytes reply (Some found) = (found ≡ reply) × (bytes ≡ spelled (parts_of name reply) head close) × IsReal reply
 Confirms name head close bytes reply None = Differs name head close bytes reply
 
 -- the kinds of replies that a request may have

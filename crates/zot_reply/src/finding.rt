@@ -7,6 +7,7 @@ ghost use Rattle.zot_digest.specs.Digest.{IsDigest};
 ghost use Rattle.zot_reply.specs.Reading.{Confirms};
 
 use crate::reading::{behind, digest_behind, number_behind, size_of};
+use crate::values::real_values;
 use std::alloc::{AllocError, Global};
 use zot_digest::Digest;
 use zot_model::Reply;
@@ -25,6 +26,7 @@ pub fn confirm(
     ensures { IfOk result (Confirms name.now head close bytes.now reply) }
 {
     let spelled = spell(alloc, name, &reply, head, close)?;
+    real_values(&reply);
     if spelled.as_slice() == bytes {
         Ok(Some(reply))
     } else {

@@ -15,6 +15,7 @@ mod referrers;
 mod refusals;
 mod replying;
 mod sessions;
+mod values;
 
 pub use crate::laws::only_alike_replies;
 pub use crate::read_reply_error::ReadReplyError;

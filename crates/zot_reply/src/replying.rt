@@ -1,9 +1,10 @@
 //! Replies read back from their bytes.
-ghost use Rattle.std.specs.Prelude.{◌≡◌, ℕ, List, IfOk, Err, false};
+ghost use Rattle.std.specs.Prelude.{◌≡◌, ℕ, List, IfOk, Err, MatchResult, false};
 ghost use Rattle.zot_model.specs.Fits.{FitsCall, IsSuccessOf};
-ghost use Rattle.zot_reply.specs.declared.read_reply_error.ReadReplyError.TheVariants.{Bad};
+ghost use Rattle.zot_reply.specs.declared.read_reply_error.ReadReplyError.TheVariants.{Bad, NoMemory};
 ghost use Rattle.zot_model.specs.declared.call.Call.TheVariants as calls;
 ghost use Rattle.zot_model.specs.declared.reply.Reply.{Reply};
+ghost use Rattle.zot_spell.specs.Alike.{AreAlike};
 ghost use Rattle.zot_reply.specs.Reading.{Finds, IsReal, IsTaken, Spells, is_head};
 
 use crate::blobs::{read_blob, read_blob_head, read_blob_made};
@@ -21,10 +22,12 @@ use zot_digest::Digest;
 use zot_model::{Call, Mount, Reply, Request};
 use zot_spell::name_of;
 
-/// The reply to a request that bytes spell: one that may answer it (`Fits`), to the request's method, whether or not the connection closes behind it. `Bad` comes exactly where the bytes spell no such reply, with a body that is longer or shorter than its length among them, and `NoMemory` only where memory runs out. Of replies that are spelled alike one is given.
+/// The reply to a request that bytes spell: one that may answer it (`Fits`), to the request's method, whether or not the connection closes behind it. `Bad` comes exactly where the bytes spell no such reply, with a body that is longer or shorter than its length among them, and `NoMemory` only where memory runs out. Of replies that are spelled alike one is given, so what `spell_reply` spelled is read as a reply that is equal to it up to its spelling.
 pub fn read_reply(alloc: Global, request: &Request, bytes: &[u8]) -> Result<Reply, ReadReplyError>
     ensures read { IfOk result (λ reply. Spells request.now reply bytes.now) }
     ensures bad { result ≡ Err Bad → (reply : Reply) → IsReal reply → ¬ Spells request.now reply bytes.now }
+    ensures alike { (reply : Reply) → IsReal reply → Spells request.now reply bytes.now
+        → MatchResult result (λ found. AreAlike (is_head request.now.call) reply found) (λ error. error ≡ NoMemory) }
 {
     let name = name_of(Some(request));
     if let Some(reply) = read_answer(alloc, name, &request.call, bytes, false)? {
