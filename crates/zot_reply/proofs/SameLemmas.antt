@@ -133,7 +133,7 @@ same_manifest : (name d f body text : List ℕ) (u v : Media) (c k : Bool) → I
     → AreSpelledAlike name false c k (replies.Manifest d u body) (replies.Manifest f v text) → replies.Manifest d u body ≡ replies.Manifest f v text
 same_manifest name d f body text u v c k x y e =
     let own = cut_front (status_line 200) (digest_field d ++ manifest_rest u (length body) c body) (digest_field f ++ manifest_rest v (length text) k text)
-        (sym (manifest_bytes name d body u c) ∙ e ∙ manifest_bytes name f text v k) in
+    (sym (manifest_bytes name d body u c) ∙ e ∙ manifest_bytes name f text v k) in
     let digest = same_digest_field d f (manifest_rest u (length body) c body) (manifest_rest v (length text) k text) x y own in
     let s = same_named_body u v (length body) (length text) c k body text digest.1 in
     ap₃ replies.Manifest digest.0 s.0 s.2
@@ -147,7 +147,7 @@ same_manifest_head : (name d f : List ℕ) (u v : Media) (n m : ℕ) (c k : Bool
     → AreSpelledAlike name true c k (replies.ManifestHead d u n) (replies.ManifestHead f v m) → replies.ManifestHead d u n ≡ replies.ManifestHead f v m
 same_manifest_head name d f u v n m c k x y p q e =
     let own = cut_front (status_line 200) (digest_field d ++ manifest_rest u n c []) (digest_field f ++ manifest_rest v m k [])
-        (sym (manifest_head_bytes name d u n c) ∙ e ∙ manifest_head_bytes name f v m k) in
+    (sym (manifest_head_bytes name d u n c) ∙ e ∙ manifest_head_bytes name f v m k) in
     let digest = same_digest_field d f (manifest_rest u n c []) (manifest_rest v m k []) x y own in
     let s = same_named_body u v n m c k [] [] digest.1 in
     ap₃ replies.ManifestHead digest.0 s.0 (decimal_injective n m p q s.1)
@@ -262,7 +262,7 @@ not_linked : (name : List ℕ) (a b : List (List ℕ)) (u : List ℕ) (n m : ℕ
 unfolding link_field body_lines type_field
 not_linked name a b u n m c k e =
     let whole = sym (append_assoc (status_line 200) (link_field name n None) (page_rest name a c)) ∙ sym (page_bytes name a None n c) ∙ e ∙ page_bytes name b (Some u) m k
-        ∙ append_assoc (status_line 200) (link_field name m (Some u)) (page_rest name b k) in
+    ∙ append_assoc (status_line 200) (link_field name m (Some u)) (page_rest name b k) in
     let behind = cut_front (status_line 200) (link_field name n None ++ page_rest name a c) (link_field name m (Some u) ++ page_rest name b k) whole in
     let first : 67 ≡ 76 = ap (λ (l : List ℕ). slice_index l 0) behind in
     omega (arith, first)

@@ -46,7 +46,7 @@ told_rests : (name : List ℕ) (a b : Code) (x y : Detail) (head c k : Bool) →
     → (decimal (length (error_body a x)) ≡ decimal (length (error_body b y))) × (shown_body head (error_body a x) ≡ shown_body head (error_body b y))
 told_rests name a b x y head c k p q h g s e =
     let whole = sym (told_bytes name a x head c p h) ∙ e ∙ told_bytes name b y head k q g
-        ∙ ap (λ (n : ℕ). (status_line n ++ own_of n) ++ told_rest n (error_body b y) head k) (sym s) in
+    ∙ ap (λ (n : ℕ). (status_line n ++ own_of n) ++ told_rest n (error_body b y) head k) (sym s) in
     let status = status_of a in
     let rest = cut_front (status_line status ++ own_of status) (told_rest status (error_body a x) head c) (told_rest status (error_body b y) head k) whole in
     same_body status json_media (length (error_body a x)) (length (error_body b y)) c k (shown_body head (error_body a x)) (shown_body head (error_body b y)) (not_content status (high_status a).0) rest
@@ -76,7 +76,7 @@ behind_wanted found = codes " found " ++ (digest_text found ++ detail_back Upstr
 seen_differ : (x y : Detail) → SaysDiffer x → SaysDiffer y → IsDetail x → IsDetail y → error_body UpstreamMismatch x ≡ error_body UpstreamMismatch y → AreSeenAlike x y
 seen_differ (details.Differ wanted found) (details.Differ wants finds) h g x y e =
     let place = cut_front (detail_front UpstreamMismatch ++ codes "expected ") (digest_text wanted ++ behind_wanted found) (digest_text wants ++ behind_wanted finds)
-        (sym (wanted_place wanted found x.0 x.1) ∙ e ∙ wanted_place wants finds y.0 y.1) in
+    (sym (wanted_place wanted found x.0 x.1) ∙ e ∙ wanted_place wants finds y.0 y.1) in
     let first = same_digest wanted wants (behind_wanted found) (behind_wanted finds) x.0 y.0 place in
     let behind = cut_front (codes " found ") (digest_text found ++ detail_back UpstreamMismatch) (digest_text finds ++ detail_back UpstreamMismatch) first.1 in
     ap₂ details.Differ first.0 (same_digest found finds (detail_back UpstreamMismatch) (detail_back UpstreamMismatch) x.1 y.1 behind).0

@@ -15,6 +15,8 @@ mod referrers;
 mod refusals;
 mod replying;
 mod sessions;
+#[cfg(test)]
+mod tests;
 mod values;
 
 pub use crate::laws::only_alike_replies;

@@ -14,9 +14,8 @@ pub fn real_values(reply: &Reply)
     ensures { IsReal reply.now }
 {
     match reply {
-        Reply::Blob { digest, .. }
-        | Reply::BlobMade { digest }
-        | Reply::Manifest { digest, .. } => real_digest(digest),
+        Reply::Blob { digest, .. } | Reply::BlobMade { digest } | Reply::Manifest { digest, .. } =>
+            real_digest(digest),
         Reply::BlobHead { digest, size } | Reply::ManifestHead { digest, size, .. } => {
             real_digest(digest);
             real_number(*size)
