@@ -1,21 +1,19 @@
 -- No other replies to a request share a spelling.
-use Rattle.std.proofs.Common.{◌≡◌, ◌⊎◌, inl, inr, ℕ, ◌<◌, ◌≤◌, Bool, true, false, List, [], ◌++◌, Option, Some, None, refl, sym, ap, subst, ◌∙◌, arith}
+use Rattle.std.proofs.Common.{◌≡◌, ◌⊎◌, inl, inr, ℕ, ◌<◌, ◌≤◌, Bool, false, List, [], ◌++◌, Option, Some, None, refl, sym, ap, subst, ◌∙◌, arith}
 use Rattle.std.proofs.lemmas.List.{append_assoc}
 use Rattle.zot_model.specs.declared.call.Call.{Call}
 use Rattle.zot_model.specs.declared.call.Call.TheVariants as calls
-use Rattle.zot_model.specs.declared.code.Code.{Code}
-use Rattle.zot_model.specs.declared.detail.Detail.{Detail}
 use Rattle.zot_model.specs.declared.reply.Reply.{Reply}
 use Rattle.zot_model.specs.declared.reply.Reply.TheVariants as replies
 use Rattle.zot_model.specs.declared.request.Request.{Request}
-use Rattle.zot_model.specs.Fits.{Fits, FitsCall, IsRefusalOf, IsSuccessOf, status_of}
+use Rattle.zot_model.specs.Fits.{Fits, FitsCall, IsRefusalOf, IsSuccessOf}
 use Rattle.zot_spell.specs.Alike.{AreAlike}
 use Rattle.zot_spell.specs.Fields.{status_line}
 use Rattle.zot_spell.specs.Spelling.{name_in, parts_of, reply_bytes, rest_of, spelled}
 use Rattle.zot_spell.proofs.FitLemmas.{not_success, session_status}
 use Rattle.zot_reply.proofs.CodeLemmas.{high_status}
 use Rattle.zot_reply.proofs.CutLemmas.{same_status}
-use Rattle.zot_reply.proofs.SameLemmas.{AreSpelledAlike, blob_heads_alike, blobs_alike, blobs_made_alike, indexes_alike, manifest_heads_alike, manifests_alike, manifests_made_alike, pages_alike, same_blob_made, same_session, sessions_alike}
+use Rattle.zot_reply.proofs.SameLemmas.{AreSpelledAlike, blob_heads_alike, blobs_alike, blobs_made_alike, indexes_alike, manifest_heads_alike, manifests_alike, manifests_made_alike, pages_alike, same_blob_made, sessions_alike}
 use Rattle.zot_reply.proofs.SameRefusals.{refusals_alike}
 use Rattle.zot_reply.specs.Reading.{Finds, IsReal, IsTaken, Spells, is_head}
 

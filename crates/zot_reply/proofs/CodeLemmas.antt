@@ -1,5 +1,5 @@
 -- Which refusal a status and the size of its body tell.
-use Rattle.std.proofs.Common.{◌≡◌, ◌≢◌, ℕ, zero, suc, ◌+◌, ◌*◌, ◌<◌, ◌≤◌, ◌^◌, ◌==◌, Bool, true, false, not, ◌&&◌, if◌then◌else◌, inl, inr, List, [], ◌∷◌, ◌++◌, length, replicate, Some, None, refl, sym, ap, ◌∙◌, arith, slice_index}
+use Rattle.std.proofs.Common.{◌≡◌, ◌≢◌, ℕ, zero, suc, ◌+◌, ◌*◌, ◌<◌, ◌≤◌, ◌^◌, ◌==◌, Bool, true, not, ◌&&◌, if◌then◌else◌, inl, inr, List, [], ◌∷◌, length, replicate, Some, None, refl, sym, ap, ◌∙◌, arith, slice_index}
 use Rattle.std.proofs.lemmas.Bool.{and_parts}
 use Rattle.std.proofs.lemmas.Bool.Decides.{nat_tests}
 use Rattle.hex.specs.Hex.{encode_with}
@@ -13,7 +13,7 @@ use Rattle.zot_model.specs.declared.detail.Detail.{Detail}
 use Rattle.zot_model.specs.declared.detail.Detail.TheVariants as details
 use Rattle.zot_model.specs.declared.methods.Methods.TheVariants as methods
 use Rattle.zot_model.specs.Fits.{HasDetail, IsAmong, SaysMissing, SaysNothing, SaysDiffer, codes_of, status_of}
-use Rattle.zot_spell.specs.Alike.{AreUnseenAlike, IsDetail}
+use Rattle.zot_spell.specs.Alike.{IsDetail}
 use Rattle.zot_spell.specs.Bodies.{detail_text, error_body, errors_value}
 use Rattle.zot_spell.specs.Codes.{code_text, message_text}
 use Rattle.zot_spell.specs.Fields.{allow_field}

@@ -1,5 +1,5 @@
 -- Replies of one kind that have the same bytes.
-use Rattle.std.proofs.Common.{◌≡◌, ℕ, ◌-◌, ◌<◌, ◌^◌, Bool, true, false, List, [], ◌∷◌, ◌++◌, length, drop, Option, Some, None, refl, sym, ap, ap₂, subst, ◌∙◌, arith, slice_index}
+use Rattle.std.proofs.Common.{◌≡◌, ℕ, ◌-◌, ◌<◌, ◌^◌, Bool, true, false, List, [], ◌∷◌, ◌++◌, length, drop, Option, Some, None, refl, sym, ap, ap₂, ◌∙◌, arith, slice_index}
 use Rattle.std.specs.Prelude.{IfSome, codes}
 use Rattle.std.specs.Fmt.{decimal}
 use Rattle.std.specs.List.{AllByRecursion}
@@ -16,7 +16,7 @@ use Rattle.zot_names.specs.Tag.{IsTag}
 use Rattle.zot_names.specs.Upload.{upload_text}
 use Rattle.zot_spell.specs.Alike.{AreAlike, AreSizesAlike}
 use Rattle.zot_spell.specs.Bodies.{page_body}
-use Rattle.zot_spell.specs.Fields.{crlf, closing_field, digest_field, filter_field, length_field, link_field, link_text, range_field, range_text, size_field, status_line, subject_field, type_field, upload_field}
+use Rattle.zot_spell.specs.Fields.{crlf, digest_field, filter_field, length_field, link_field, range_field, range_text, size_field, status_line, subject_field, type_field, upload_field}
 use Rattle.zot_spell.specs.Spelling.{body_lines, byte_media, json_media, parts_of, spelled}
 use Rattle.zot_reply.proofs.CutLemmas.{cut_front, same_body, same_digest, same_digest_field, same_ended, same_id, same_named_body}
 use Rattle.zot_reply.proofs.FoundLemmas.{ap₃, behind_manifest, blob_bytes, blob_head_bytes, blob_made_bytes, index_bytes, manifest_bytes, manifest_head_bytes, manifest_made_bytes, session_bytes}

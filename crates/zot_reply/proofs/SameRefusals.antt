@@ -1,11 +1,11 @@
 -- Refusals of one call that have the same bytes.
-use Rattle.std.proofs.Common.{◌≡◌, ◌≢◌, ◌⊎◌, inl, inr, ℕ, ◌+◌, ◌*◌, ◌-◌, ◌<◌, ◌≤◌, ◌^◌, ◌==◌, Bool, true, false, List, [], ◌∷◌, ◌++◌, length, Some, None, refl, sym, ap, ap₂, subst, ◌∙◌, arith}
+use Rattle.std.proofs.Common.{◌≡◌, ◌≢◌, ◌⊎◌, inl, inr, ℕ, ◌+◌, ◌*◌, ◌≤◌, ◌==◌, Bool, true, false, List, ◌++◌, length, Some, refl, sym, ap, ap₂, subst, ◌∙◌, arith}
 use Rattle.std.specs.Prelude.{codes}
 use Rattle.std.specs.Fmt.{decimal}
 use Rattle.std.proofs.lemmas.Bool.Decides.{nat_tests}
 use Rattle.std.proofs.lemmas.Fmt.{decimal_injective}
 use Rattle.std.proofs.lemmas.List.{append_assoc}
-use Rattle.zot_digest.specs.Digest.{IsDigest, digest_text}
+use Rattle.zot_digest.specs.Digest.{digest_text}
 use Rattle.zot_model.specs.declared.call.Call.{Call}
 use Rattle.zot_model.specs.declared.code.Code.{Code}
 use Rattle.zot_model.specs.declared.code.Code.TheVariants.{BlobUploadInvalid, ManifestBlobUnknown, Unsupported, UpstreamIncomplete, UpstreamInvalid, UpstreamMismatch}
@@ -14,14 +14,14 @@ use Rattle.zot_model.specs.declared.detail.Detail.TheVariants as details
 use Rattle.zot_model.specs.declared.reply.Reply.{Reply}
 use Rattle.zot_model.specs.declared.reply.Reply.TheVariants as replies
 use Rattle.zot_model.specs.Fits.{HasDetail, IsAmong, IsRefusalOf, SaysDiffer, SaysMissing, SaysNothing, SaysSession, codes_of, status_of}
-use Rattle.zot_spell.specs.Alike.{AreAlike, AreDetailsAlike, AreSeenAlike, AreSizesAlike, AreUnseenAlike, IsDetail}
+use Rattle.zot_spell.specs.Alike.{AreAlike, AreDetailsAlike, AreSeenAlike, IsDetail}
 use Rattle.zot_spell.specs.Bodies.{error_body}
 use Rattle.zot_spell.specs.Fields.{status_line}
-use Rattle.zot_spell.specs.Spelling.{body_lines, json_media, parts_of, refusal_fields, rest_of, shown_body, spelled}
-use Rattle.zot_reply.proofs.CodeLemmas.{body_size, distinct_codes, has_size, high_status, one_code, own_is, own_of, range_status, seen_of, size_small}
+use Rattle.zot_spell.specs.Spelling.{body_lines, json_media, parts_of, rest_of, shown_body, spelled}
+use Rattle.zot_reply.proofs.CodeLemmas.{body_size, distinct_codes, has_size, high_status, one_code, own_is, own_of, range_status, size_small}
 use Rattle.zot_reply.proofs.CutLemmas.{cut_front, same_body, same_digest, same_status}
 use Rattle.zot_reply.proofs.DetailLemmas.{detail_back, missing_place, real_detail, unseen_kind, wanted_place}
-use Rattle.zot_reply.proofs.FoundLemmas.{behind_refusal, range_refusal, refusal_id_bytes}
+use Rattle.zot_reply.proofs.FoundLemmas.{behind_refusal, refusal_id_bytes}
 use Rattle.zot_reply.proofs.SameLemmas.{AreSpelledAlike, same_upload}
 use Rattle.zot_reply.specs.Reading.{IsReal, IsRealDetail, TellsMissing, detail_front, refusal_with}
 

@@ -22,3 +22,4 @@ mod values;
 pub use crate::laws::only_alike_replies;
 pub use crate::read_reply_error::ReadReplyError;
 pub use crate::replying::read_reply;
+pub use crate::values::real_values;

@@ -1,7 +1,7 @@
 //! Each kind of reply, spelled and read back, against the lines that the specifications give it.
 ghost use Rattle.zot_model.specs.Fits.{FitsCall};
 
-use crate::{ReadReplyError, only_alike_replies, read_reply};
+use crate::{ReadReplyError, only_alike_replies, read_reply, real_values};
 use std::alloc::{AllocError, Global};
 use std::test::Fail;
 use zot_digest::{Bytes, Digest, digest_of};
@@ -301,6 +301,7 @@ fn shared_spellings(rt: HostRuntime) -> Result<(), Fail> {
     let alloc = rt.alloc();
     // Those that share a spelling are these alone, as this law says.
     only_alike_replies();
+    real_values(&Reply::Deleted);
     let empty = Reply::Session {
         id: UploadId::new(1),
         length: 0,
