@@ -19,7 +19,7 @@ use Rattle.zot_spell.specs.Codes.{code_text, message_text}
 use Rattle.zot_spell.specs.Fields.{allow_field}
 use Rattle.zot_spell.specs.Spelling.{refusal_fields}
 use Rattle.zot_spell.proofs.AlikeLemmas.{unseen_size}
-use Rattle.zot_reply.proofs.DetailLemmas.{unseen_kind}
+use Rattle.zot_reply.proofs.DetailLemmas.{differ_own, missing_own, unseen_kind}
 
 -- ---- the sizes of bodies
 
@@ -173,30 +173,28 @@ range_status code e = absurd (omega (arith, e))
 abbrev pub own_of : ℕ → List ℕ
 own_of status = if status == 405 then allow_field methods.Read else []
 
-nothing_own : (name : List ℕ) (detail : Detail) → SaysNothing detail → refusal_fields name detail ≡ []
+says_nothing : (name : List ℕ) (detail : Detail) → SaysNothing detail → refusal_fields name detail ≡ []
 unfolding refusal_fields
-nothing_own name details.None h = refl
-nothing_own name detail h = absurd h
+says_nothing name details.None h = refl
+says_nothing name detail h = absurd h
 
-missing_own : (name : List ℕ) (detail : Detail) → SaysMissing detail → refusal_fields name detail ≡ []
-unfolding refusal_fields
-missing_own name (details.Missing digest) h = refl
-missing_own name detail h = absurd h
+says_missing : (name : List ℕ) (detail : Detail) → SaysMissing detail → refusal_fields name detail ≡ []
+says_missing name (details.Missing digest) h = missing_own name digest
+says_missing name detail h = absurd h
 
-differ_own : (name : List ℕ) (detail : Detail) → SaysDiffer detail → refusal_fields name detail ≡ []
-unfolding refusal_fields
-differ_own name (details.Differ wanted found) h = refl
-differ_own name detail h = absurd h
+says_differ : (name : List ℕ) (detail : Detail) → SaysDiffer detail → refusal_fields name detail ≡ []
+says_differ name (details.Differ wanted found) h = differ_own name wanted found
+says_differ name detail h = absurd h
 
-allow_own : (name : List ℕ) (detail : Detail) → detail ≡ details.Allow methods.Read → refusal_fields name detail ≡ allow_field methods.Read
+says_methods : (name : List ℕ) (detail : Detail) → detail ≡ details.Allow methods.Read → refusal_fields name detail ≡ allow_field methods.Read
 unfolding refusal_fields
-allow_own name detail h = rw h refl
+says_methods name detail h = rw h refl
 
 pub own_is : (name : List ℕ) (code : Code) (detail : Detail) → code ≢ BlobUploadInvalid → HasDetail code detail → refusal_fields name detail ≡ own_of (status_of code)
 own_is name BlobUploadInvalid detail other h = absurd (other refl)
-own_is name ManifestBlobUnknown detail other h = missing_own name detail h
-own_is name Unsupported detail other h = allow_own name detail h
-own_is name UpstreamMismatch detail other h = differ_own name detail h
-own_is name UpstreamIncomplete detail other h = missing_own name detail h
-own_is name UpstreamInvalid detail other h = missing_own name detail h
-own_is name code detail other h = nothing_own name detail h
+own_is name ManifestBlobUnknown detail other h = says_missing name detail h
+own_is name Unsupported detail other h = says_methods name detail h
+own_is name UpstreamMismatch detail other h = says_differ name detail h
+own_is name UpstreamIncomplete detail other h = says_missing name detail h
+own_is name UpstreamInvalid detail other h = says_missing name detail h
+own_is name code detail other h = says_nothing name detail h
