@@ -44,20 +44,23 @@ plain_found : IsPlain (codes " found ")
 unfolding escape_byte
 plain_found = (refl, (refl, (refl, (refl, (refl, (refl, (refl, tt)))))))
 
-digest_length : (digest : List ℕ) → IsDigest digest → length (digest_text digest) ≡ 71
+pub digest_length : (digest : List ℕ) → IsDigest digest → length (digest_text digest) ≡ 71
 unfolding digest_text
 digest_length digest is = rw (length-append) (omega (arith, length-encode_with lower_digits digest, is.long))
+
+pub differ_plain : (wanted found : List ℕ) → IsDigest wanted → IsDigest found → IsPlain (codes "expected " ++ digest_text wanted ++ codes " found " ++ digest_text found)
+differ_plain wanted found w f =
+    let front = plain_append (codes "expected ") (digest_text wanted) plain_expected (plain_digest wanted w) in
+    let middle = plain_append (codes "expected " ++ digest_text wanted) (codes " found ") front plain_found in
+    plain_append (codes "expected " ++ digest_text wanted ++ codes " found ") (digest_text found) middle (plain_digest found f)
 
 differ_size : (wanted found : List ℕ) → IsDigest wanted → IsDigest found
     → length (escape (codes "expected " ++ digest_text wanted ++ codes " found " ++ digest_text found)) ≡ 158
 differ_size wanted found w f =
-    let front = plain_append (codes "expected ") (digest_text wanted) plain_expected (plain_digest wanted w) in
-    let middle = plain_append (codes "expected " ++ digest_text wanted) (codes " found ") front plain_found in
-    let plain = plain_append (codes "expected " ++ digest_text wanted ++ codes " found ") (digest_text found) middle (plain_digest found f) in
-    rw (plain_text (codes "expected " ++ digest_text wanted ++ codes " found " ++ digest_text found) plain)
+    rw (plain_text (codes "expected " ++ digest_text wanted ++ codes " found " ++ digest_text found) (differ_plain wanted found w f))
     (simp length-append (omega (arith, digest_length wanted w, digest_length found f)))
 
-unseen_size : (code : Code) (detail said : Detail) → IsDetail detail → IsDetail said → AreUnseenAlike detail said → length (error_body code detail) ≡ length (error_body code said)
+pub unseen_size : (code : Code) (detail said : Detail) → IsDetail detail → IsDetail said → AreUnseenAlike detail said → length (error_body code detail) ≡ length (error_body code said)
 unfolding error_body detail_text
 unseen_size code details.None details.None x y h = refl
 unseen_size code (details.Missing digest) (details.Missing other) x y h = error_size (code_text code) _ _ (message_text code) (digest_size digest x ∙ sym (digest_size other y))
@@ -92,7 +95,7 @@ head_alike : (status : ℕ) (own fields media body text : List ℕ) (close : Boo
 unfolding spelled rest_of shown_body
 head_alike status own fields media body text close e l = rw (e, l) refl
 
-refused_alike : (name : List ℕ) (status : ℕ) (code : Code) (detail said : Detail) (head close : Bool) → IsDetail detail → IsDetail said → AreDetailsAlike head detail said
+pub refused_alike : (name : List ℕ) (status : ℕ) (code : Code) (detail said : Detail) (head close : Bool) → IsDetail detail → IsDetail said → AreDetailsAlike head detail said
     → spelled (parts_of name (replies.Refused status code detail)) head close ≡ spelled (parts_of name (replies.Refused status code said)) head close
 unfolding parts_of
 refused_alike name status code detail said true close x y h = head_alike status _ _ _ _ _ close (unseen_fields name detail said h) (unseen_size code detail said x y h)

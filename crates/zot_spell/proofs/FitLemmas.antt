@@ -1,5 +1,5 @@
 -- A reply that fits has a status of three digits.
-use Rattle.std.proofs.Common.{◌≡◌, ℕ, ◌<◌, ◌≤◌, List, Option, Some, None, inl, inr, arith}
+use Rattle.std.proofs.Common.{◌≡◌, ℕ, ◌<◌, ◌≤◌, List, Option, Some, None, ◌⊎◌, inl, inr, arith}
 use Rattle.http.specs.StatusCode.{IsStatusCode}
 use Rattle.zot_model.specs.declared.call.Call.{Call}
 use Rattle.zot_model.specs.declared.call.Call.TheVariants as calls
@@ -42,7 +42,7 @@ code_three UpstreamMismatch = (omega arith, omega arith)
 code_three UpstreamTooLarge = (omega arith, omega arith)
 
 -- no call succeeds with a refusal
-not_success : (call : Call) (status : ℕ) (code : Code) (detail : Detail) → IsSuccessOf call (replies.Refused status code detail) → ⊥
+pub not_success : (call : Call) (status : ℕ) (code : Code) (detail : Detail) → IsSuccessOf call (replies.Refused status code detail) → ⊥
 not_success calls.Base status code detail h = h
 not_success (calls.GetBlob d) status code detail h = h
 not_success (calls.HeadBlob d) status code detail h = h
@@ -62,24 +62,28 @@ not_success (calls.Tags n l) status code detail h = h
 not_success (calls.Referrers d f) status code detail h = h
 
 -- an upload is answered with 202 or 204
-session_three : (call : Call) (id size status : ℕ) → IsSuccessOf call (replies.Session id size status) → IsStatusCode status
-session_three calls.Base id size status h = absurd h
-session_three (calls.GetBlob d) id size status h = absurd h
-session_three (calls.HeadBlob d) id size status h = absurd h
-session_three (calls.DeleteBlob d) id size status h = absurd h
-session_three (calls.Post None None b) id size status h = is_three status 202 h (omega arith) (omega arith)
-session_three (calls.Post None (Some d) b) id size status h = absurd h
-session_three (calls.Post (Some m) None b) id size status h = is_three status 202 h (omega arith) (omega arith)
-session_three (calls.Post (Some m) (Some d) b) id size status h = absurd h
-session_three (calls.Patch i r b) id size status h = is_three status 202 h (omega arith) (omega arith)
-session_three (calls.Finish i r d b) id size status h = absurd h
-session_three (calls.UploadState i) id size status h = is_three status 204 h (omega arith) (omega arith)
-session_three (calls.PutManifest r m b) id size status h = absurd h
-session_three (calls.GetManifest r) id size status h = absurd h
-session_three (calls.HeadManifest r) id size status h = absurd h
-session_three (calls.DeleteManifest r) id size status h = absurd h
-session_three (calls.Tags n l) id size status h = absurd h
-session_three (calls.Referrers d f) id size status h = absurd h
+pub session_status : (call : Call) (id size status : ℕ) → IsSuccessOf call (replies.Session id size status) → (status ≡ 202) ⊎ (status ≡ 204)
+session_status calls.Base id size status h = absurd h
+session_status (calls.GetBlob d) id size status h = absurd h
+session_status (calls.HeadBlob d) id size status h = absurd h
+session_status (calls.DeleteBlob d) id size status h = absurd h
+session_status (calls.Post None None b) id size status h = inl h
+session_status (calls.Post None (Some d) b) id size status h = absurd h
+session_status (calls.Post (Some m) None b) id size status h = inl h
+session_status (calls.Post (Some m) (Some d) b) id size status h = absurd h
+session_status (calls.Patch i r b) id size status h = inl h
+session_status (calls.Finish i r d b) id size status h = absurd h
+session_status (calls.UploadState i) id size status h = inr h
+session_status (calls.PutManifest r m b) id size status h = absurd h
+session_status (calls.GetManifest r) id size status h = absurd h
+session_status (calls.HeadManifest r) id size status h = absurd h
+session_status (calls.DeleteManifest r) id size status h = absurd h
+session_status (calls.Tags n l) id size status h = absurd h
+session_status (calls.Referrers d f) id size status h = absurd h
+
+session_three : (status : ℕ) → (status ≡ 202) ⊎ (status ≡ 204) → IsStatusCode status
+session_three status (inl h) = is_three status 202 h (omega arith) (omega arith)
+session_three status (inr h) = is_three status 204 h (omega arith) (omega arith)
 
 declined_three : (code : Code) (status : ℕ) (detail : Detail) → IsDeclinedAs code status detail → IsStatusCode status
 declined_three BlobUnknown status detail h = absurd h
@@ -116,7 +120,7 @@ has_status request name (replies.Blob digest bytes) h = (omega arith, omega arit
 has_status request name (replies.BlobHead digest size) h = (omega arith, omega arith)
 has_status request name (replies.BlobMade digest) h = (omega arith, omega arith)
 has_status None name (replies.Session id size status) h = absurd h
-has_status (Some request) name (replies.Session id size status) (inl h) = session_three request.call id size status h
+has_status (Some request) name (replies.Session id size status) (inl h) = session_three status (session_status request.call id size status h)
 has_status (Some request) name (replies.Session id size status) (inr h) = absurd h
 has_status request name (replies.ManifestMade digest subject) h = (omega arith, omega arith)
 has_status request name (replies.Manifest digest media bytes) h = (omega arith, omega arith)

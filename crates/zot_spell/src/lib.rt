@@ -13,6 +13,10 @@ mod status;
 #[cfg(test)]
 mod tests;
 
+pub use crate::codes::text_of;
+pub use crate::fields::{push_digest, push_filter, push_link, push_location, push_type};
 pub use crate::laws::alike_replies;
-pub use crate::reply::spell_reply;
+pub use crate::places::{manifest_place, upload_place};
+pub use crate::reply::{byte_media, json_media, name_of, push_lines, spell, spell_reply};
 pub use crate::request::spell_request;
+pub use crate::status::push_status;

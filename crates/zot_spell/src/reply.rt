@@ -33,8 +33,8 @@ pub fn spell_reply(
     spell(alloc, name, reply, head, close)
 }
 
-// The name of a request's repository, or no text.
-fn name_of<'a>(request: Option<&'a Request>) -> &'a str
+/// The name of a request's repository, or no text.
+pub fn name_of<'a>(request: Option<&'a Request>) -> &'a str
     ensures { result.now ≡ name_in (option_copied request.entry) }
 {
     match request {
@@ -46,9 +46,9 @@ fn name_of<'a>(request: Option<&'a Request>) -> &'a str
     }
 }
 
-// The bytes of a reply to a request on the repository of this name.
+/// The bytes of a reply to a request on the repository of this name.
 #[tactic(auto, unfolding(crate::specs::Spelling::spelled))]
-fn spell(
+pub fn spell(
     alloc: Global,
     name: &str,
     reply: &Reply,
@@ -266,9 +266,9 @@ fn push_bodiless(
     push_lines(alloc, out, status, None, 0, close)
 }
 
-// Adds the lines behind a reply's own fields, through the empty line.
+/// Adds the lines behind a reply's own fields, through the empty line.
 #[tactic(auto, unfolding(crate::specs::Spelling::body_lines))]
-fn push_lines(
+pub fn push_lines(
     alloc: Global,
     out: &mut Vec<u8>,
     status: u16,
@@ -297,17 +297,17 @@ fn push_shown(out: &mut Vec<u8>, head: bool, body: &[u8]) -> Result<(), AllocErr
     }
 }
 
-// The media of a body of bytes.
+/// The media of a body of bytes.
 #[tactic(auto, unfolding(crate::specs::Spelling::byte_media))]
-fn byte_media() -> &'static str
+pub fn byte_media() -> &'static str
     ensures { result.now ≡ byte_media }
 {
     "application/octet-stream"
 }
 
-// The media of a body of JSON.
+/// The media of a body of JSON.
 #[tactic(auto, unfolding(crate::specs::Spelling::json_media))]
-fn json_media() -> &'static str
+pub fn json_media() -> &'static str
     ensures { result.now ≡ json_media }
 {
     "application/json"

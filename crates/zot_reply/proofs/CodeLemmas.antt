@@ -1,0 +1,200 @@
+-- Which refusal a status and the size of its body tell.
+use Rattle.std.proofs.Common.{◌≡◌, ◌≢◌, ℕ, zero, suc, ◌+◌, ◌*◌, ◌<◌, ◌≤◌, ◌^◌, ◌==◌, Bool, true, not, ◌&&◌, if◌then◌else◌, inl, inr, List, [], ◌∷◌, length, replicate, Some, None, refl, sym, ap, ◌∙◌, arith, slice_index}
+use Rattle.std.proofs.lemmas.Bool.{and_parts}
+use Rattle.std.proofs.lemmas.Bool.Decides.{nat_tests}
+use Rattle.hex.specs.Hex.{encode_with}
+use Rattle.json.specs.Print.{escape_byte}
+use Rattle.zot_digest.specs.Digest.{IsDigest, digest_text}
+use Rattle.zot_model.specs.declared.call.Call.{Call}
+use Rattle.zot_model.specs.declared.call.Call.TheVariants as calls
+use Rattle.zot_model.specs.declared.code.Code.{Code}
+use Rattle.zot_model.specs.declared.code.Code.TheVariants.{BlobUnknown, BlobUploadInvalid, BlobUploadUnknown, DigestInvalid, HeadInvalid, HeadTooLong, HopRefused, ManifestBlobUnknown, ManifestInvalid, ManifestUnknown, NameInvalid, NameUnknown, NoMemory, NotBuilt, PeerFault, SizeInvalid, StorageFault, TooManyRequests, Unsupported, UpstreamFault, UpstreamIncomplete, UpstreamInvalid, UpstreamMismatch, UpstreamTooLarge}
+use Rattle.zot_model.specs.declared.detail.Detail.{Detail}
+use Rattle.zot_model.specs.declared.detail.Detail.TheVariants as details
+use Rattle.zot_model.specs.declared.methods.Methods.TheVariants as methods
+use Rattle.zot_model.specs.Fits.{HasDetail, IsAmong, SaysMissing, SaysNothing, SaysDiffer, codes_of, status_of}
+use Rattle.zot_spell.specs.Alike.{IsDetail}
+use Rattle.zot_spell.specs.Bodies.{detail_text, error_body, errors_value}
+use Rattle.zot_spell.specs.Codes.{code_text, message_text}
+use Rattle.zot_spell.specs.Fields.{allow_field}
+use Rattle.zot_spell.specs.Spelling.{refusal_fields}
+use Rattle.zot_spell.proofs.AlikeLemmas.{unseen_size}
+use Rattle.zot_reply.proofs.DetailLemmas.{differ_own, missing_own, unseen_kind}
+
+-- ---- the sizes of bodies
+
+-- how many bytes the body of a refusal has
+abbrev pub body_size : Code → ℕ
+body_size BlobUnknown = 61
+body_size BlobUploadInvalid = 75
+body_size BlobUploadUnknown = 75
+body_size DigestInvalid = 65
+body_size ManifestBlobUnknown = 162
+body_size ManifestInvalid = 69
+body_size ManifestUnknown = 69
+body_size NameInvalid = 61
+body_size NameUnknown = 61
+body_size SizeInvalid = 61
+body_size Unsupported = 59
+body_size TooManyRequests = 67
+body_size HeadInvalid = 61
+body_size HeadTooLong = 63
+body_size StorageFault = 63
+body_size UpstreamFault = 65
+body_size UpstreamMismatch = 241
+body_size UpstreamIncomplete = 158
+body_size UpstreamInvalid = 152
+body_size UpstreamTooLarge = 73
+body_size PeerFault = 57
+body_size NoMemory = 55
+body_size HopRefused = 59
+body_size NotBuilt = 55
+
+abbrev zeros : List ℕ
+zeros = replicate 32 0
+
+zero_at : (n i : ℕ) → slice_index (replicate n 0) i < 256
+zero_at zero i = omega arith
+zero_at (suc n) zero = omega arith
+zero_at (suc n) (suc i) = zero_at n i
+
+are_zeros : IsDigest zeros
+are_zeros = record { long = refl; bytes = zero_at 32 }
+
+-- a detail of each code's kind
+abbrev sample : Code → Detail
+sample BlobUploadInvalid = details.Session 0 0
+sample ManifestBlobUnknown = details.Missing zeros
+sample Unsupported = details.Allow methods.Read
+sample UpstreamMismatch = details.Differ zeros zeros
+sample UpstreamIncomplete = details.Missing zeros
+sample UpstreamInvalid = details.Missing zeros
+sample _ = details.None
+
+sample_kind : (code : Code) → HasDetail code (sample code)
+sample_kind BlobUploadInvalid = tt
+sample_kind ManifestBlobUnknown = tt
+sample_kind Unsupported = refl
+sample_kind UpstreamMismatch = tt
+sample_kind UpstreamIncomplete = tt
+sample_kind UpstreamInvalid = tt
+sample_kind code = tt
+
+sample_digests : (code : Code) → IsDetail (sample code)
+sample_digests BlobUploadInvalid = tt
+sample_digests ManifestBlobUnknown = are_zeros
+sample_digests Unsupported = tt
+sample_digests UpstreamMismatch = (are_zeros, are_zeros)
+sample_digests UpstreamIncomplete = are_zeros
+sample_digests UpstreamInvalid = are_zeros
+sample_digests code = tt
+
+sample_size : (code : Code) → length (error_body code (sample code)) ≡ body_size code
+unfolding error_body errors_value detail_text code_text message_text escape_byte digest_text encode_with
+sample_size BlobUnknown = refl
+sample_size BlobUploadInvalid = refl
+sample_size BlobUploadUnknown = refl
+sample_size DigestInvalid = refl
+sample_size ManifestBlobUnknown = refl
+sample_size ManifestInvalid = refl
+sample_size ManifestUnknown = refl
+sample_size NameInvalid = refl
+sample_size NameUnknown = refl
+sample_size SizeInvalid = refl
+sample_size Unsupported = refl
+sample_size TooManyRequests = refl
+sample_size HeadInvalid = refl
+sample_size HeadTooLong = refl
+sample_size StorageFault = refl
+sample_size UpstreamFault = refl
+sample_size UpstreamMismatch = refl
+sample_size UpstreamIncomplete = refl
+sample_size UpstreamInvalid = refl
+sample_size UpstreamTooLarge = refl
+sample_size PeerFault = refl
+sample_size NoMemory = refl
+sample_size HopRefused = refl
+sample_size NotBuilt = refl
+
+pub has_size : (code : Code) (detail : Detail) → code ≢ BlobUploadInvalid → HasDetail code detail → IsDetail detail → length (error_body code detail) ≡ body_size code
+has_size code detail other has digests =
+    unseen_size code detail (sample code) digests (sample_digests code) (unseen_kind code detail (sample code) other has (sample_kind code)) ∙ sample_size code
+
+pub size_small : (code : Code) → body_size code < 2 ^ 64
+size_small BlobUnknown = omega arith
+size_small code = omega arith
+
+-- ---- the codes of a call differ in what is seen of them
+
+-- what is seen of a code in any case
+abbrev pub seen_of : Code → ℕ
+seen_of code = status_of code + 1000 * body_size code
+
+abbrev is_new : ℕ → List Code → Bool
+is_new seen [] = true
+is_new seen (code ∷ codes) = not (seen_of code == seen) && is_new seen codes
+
+abbrev pub are_distinct : List Code → Bool
+are_distinct [] = true
+are_distinct (code ∷ codes) = is_new (seen_of code) codes && are_distinct codes
+
+unequal : (a b : ℕ) → not (a == b) ≡ true → a ≡ b → ⊥
+unequal a b h e = grind (arith, nat_tests)
+
+new_differs : (seen : ℕ) (codes : List Code) (code : Code) → is_new seen codes ≡ true → IsAmong codes code → seen_of code ≡ seen → ⊥
+new_differs seen [] code h among e = absurd among
+new_differs seen (other ∷ codes) code h (inl s) e = unequal (seen_of other) seen (and_parts (not (seen_of other == seen)) (is_new seen codes) h).0 (sym (ap seen_of s) ∙ e)
+new_differs seen (other ∷ codes) code h (inr among) e = new_differs seen codes code (and_parts (not (seen_of other == seen)) (is_new seen codes) h).1 among e
+
+pub one_code : (codes : List Code) (a b : Code) → are_distinct codes ≡ true → IsAmong codes a → IsAmong codes b → seen_of a ≡ seen_of b → a ≡ b
+one_code [] a b h i j e = absurd i
+one_code (code ∷ codes) a b h (inl s) (inl t) e = s ∙ sym t
+one_code (code ∷ codes) a b h (inl s) (inr j) e = absurd (new_differs (seen_of code) codes b (and_parts (is_new (seen_of code) codes) (are_distinct codes) h).0 j (sym e ∙ ap seen_of s))
+one_code (code ∷ codes) a b h (inr i) (inl t) e = absurd (new_differs (seen_of code) codes a (and_parts (is_new (seen_of code) codes) (are_distinct codes) h).0 i (e ∙ ap seen_of t))
+one_code (code ∷ codes) a b h (inr i) (inr j) e = one_code codes a b (and_parts (is_new (seen_of code) codes) (are_distinct codes) h).1 i j e
+
+pub distinct_codes : (call : Call) → are_distinct (codes_of call) ≡ true
+distinct_codes (calls.Post mount None body) = refl
+distinct_codes (calls.Post mount (Some digest) body) = refl
+distinct_codes call = refl
+
+-- ---- statuses and own fields of refusals
+
+pub high_status : (code : Code) → (400 ≤ status_of code) × (status_of code < 1000)
+high_status BlobUnknown = (omega arith, omega arith)
+high_status code = (omega arith, omega arith)
+
+-- the range that doesn't go on is told alone with its status
+pub range_status : (code : Code) → status_of code ≡ 416 → code ≡ BlobUploadInvalid
+range_status BlobUploadInvalid e = refl
+range_status code e = absurd (omega (arith, e))
+
+-- the own fields of refusals with this status, but for those that tell an upload
+abbrev pub own_of : ℕ → List ℕ
+own_of status = if status == 405 then allow_field methods.Read else []
+
+says_nothing : (name : List ℕ) (detail : Detail) → SaysNothing detail → refusal_fields name detail ≡ []
+unfolding refusal_fields
+says_nothing name details.None h = refl
+says_nothing name detail h = absurd h
+
+says_missing : (name : List ℕ) (detail : Detail) → SaysMissing detail → refusal_fields name detail ≡ []
+says_missing name (details.Missing digest) h = missing_own name digest
+says_missing name detail h = absurd h
+
+says_differ : (name : List ℕ) (detail : Detail) → SaysDiffer detail → refusal_fields name detail ≡ []
+says_differ name (details.Differ wanted found) h = differ_own name wanted found
+says_differ name detail h = absurd h
+
+says_methods : (name : List ℕ) (detail : Detail) → detail ≡ details.Allow methods.Read → refusal_fields name detail ≡ allow_field methods.Read
+unfolding refusal_fields
+says_methods name detail h = rw h refl
+
+pub own_is : (name : List ℕ) (code : Code) (detail : Detail) → code ≢ BlobUploadInvalid → HasDetail code detail → refusal_fields name detail ≡ own_of (status_of code)
+own_is name BlobUploadInvalid detail other h = absurd (other refl)
+own_is name ManifestBlobUnknown detail other h = says_missing name detail h
+own_is name Unsupported detail other h = says_methods name detail h
+own_is name UpstreamMismatch detail other h = says_differ name detail h
+own_is name UpstreamIncomplete detail other h = says_missing name detail h
+own_is name UpstreamInvalid detail other h = says_missing name detail h
+own_is name code detail other h = says_nothing name detail h

@@ -1,0 +1,11 @@
+pub mod AloneLemmas
+pub mod CodeLemmas
+pub mod CutLemmas
+pub mod DetailLemmas
+pub mod FoundLemmas
+pub mod MediaTextLemmas
+pub mod PageLemmas
+pub mod ReadingLemmas
+pub mod ReplyingLemmas
+pub mod SameLemmas
+pub mod SameRefusals

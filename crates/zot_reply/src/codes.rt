@@ -1,0 +1,142 @@
+//! The codes with which calls are refused, and their statuses.
+ghost use Rattle.std.specs.Prelude.{◌≡◌, ◌++◌, ◌∷◌, false, IfOk, ◌==◌};
+ghost use Rattle.http.specs.StatusCode.{IsStatusCode};
+ghost use Rattle.zot_model.specs.Fits.{status_of, codes_of, common_codes, manifest_codes, upload_codes};
+ghost use Rattle.zot_model.specs.declared.code.Code.TheVariants.{DigestInvalid, ManifestBlobUnknown, ManifestInvalid};
+
+use std::alloc::{AllocError, Global};
+use zot_model::{Call, Code};
+
+/// The status of a refused request.
+pub fn status_of_code(code: Code) -> u16
+    ensures value { result ≡ status_of code }
+    ensures three { IsStatusCode result }
+    ensures content { (result == 204) ≡ false }
+{
+    match code {
+        Code::DigestInvalid
+        | Code::HeadInvalid
+        | Code::ManifestBlobUnknown
+        | Code::ManifestInvalid
+        | Code::NameInvalid => 400,
+        Code::BlobUnknown | Code::BlobUploadUnknown | Code::ManifestUnknown | Code::NameUnknown =>
+            404,
+        Code::Unsupported => 405,
+        Code::SizeInvalid => 413,
+        Code::BlobUploadInvalid => 416,
+        Code::TooManyRequests => 429,
+        Code::HeadTooLong => 431,
+        Code::StorageFault => 500,
+        Code::NotBuilt => 501,
+        Code::PeerFault
+        | Code::UpstreamFault
+        | Code::UpstreamIncomplete
+        | Code::UpstreamInvalid
+        | Code::UpstreamMismatch
+        | Code::UpstreamTooLarge => 502,
+        Code::NoMemory => 503,
+        Code::HopRefused => 508,
+    }
+}
+
+/// The codes with which a call may be refused.
+pub fn codes_of(alloc: Global, call: &Call) -> Result<Vec<Code>, AllocError>
+    ensures { IfOk result (λ codes. codes.items ≡ codes_of call.now) }
+{
+    match call {
+        Call::Base => Ok(Vec::new(alloc)),
+        Call::GetBlob(_) | Call::HeadBlob(_) => with_common(alloc, [Code::BlobUnknown].as_slice()),
+        Call::DeleteBlob(_) => {
+            with_common(alloc, [Code::BlobUnknown, Code::Unsupported].as_slice())
+        }
+        Call::Post { digest, .. } => match digest {
+            Some(_) => with_common(alloc, [Code::DigestInvalid].as_slice()),
+            None => with_common(alloc, [Code::TooManyRequests].as_slice()),
+        },
+        Call::Patch { .. } => upload_codes(alloc),
+        Call::Finish { .. } => finish_codes(alloc),
+        Call::UploadState { .. } => with_common(alloc, [Code::BlobUploadUnknown].as_slice()),
+        Call::PutManifest { .. } => pushed_codes(alloc),
+        Call::GetManifest(_) | Call::HeadManifest(_) => manifest_codes(alloc),
+        Call::DeleteManifest(_) => with_common(alloc, [Code::ManifestUnknown].as_slice()),
+        Call::Tags { .. } => with_common(alloc, [Code::NameUnknown].as_slice()),
+        Call::Referrers { .. } => common_codes(alloc),
+    }
+}
+
+// The codes of more bytes of an upload.
+fn upload_codes(alloc: Global) -> Result<Vec<Code>, AllocError>
+    ensures { IfOk result (λ codes. codes.items ≡ upload_codes) }
+{
+    let own = [
+        Code::BlobUploadUnknown,
+        Code::BlobUploadInvalid,
+        Code::SizeInvalid,
+    ];
+    with_common(alloc, own.as_slice())
+}
+
+// The codes of an upload's last bytes.
+fn finish_codes(alloc: Global) -> Result<Vec<Code>, AllocError>
+    ensures { IfOk result (λ codes. codes.items ≡ DigestInvalid ∷ upload_codes) }
+{
+    let own = [
+        Code::DigestInvalid,
+        Code::BlobUploadUnknown,
+        Code::BlobUploadInvalid,
+        Code::SizeInvalid,
+    ];
+    with_common(alloc, own.as_slice())
+}
+
+// The codes of a manifest to be stored.
+fn pushed_codes(alloc: Global) -> Result<Vec<Code>, AllocError>
+    ensures { IfOk result (λ codes. codes.items
+        ≡ ManifestInvalid ∷ (DigestInvalid ∷ (ManifestBlobUnknown ∷ common_codes))) }
+{
+    let own = [
+        Code::ManifestInvalid,
+        Code::DigestInvalid,
+        Code::ManifestBlobUnknown,
+    ];
+    with_common(alloc, own.as_slice())
+}
+
+// The codes of a wanted manifest.
+fn manifest_codes(alloc: Global) -> Result<Vec<Code>, AllocError>
+    ensures { IfOk result (λ codes. codes.items ≡ manifest_codes) }
+{
+    let own = [
+        Code::ManifestUnknown,
+        Code::UpstreamFault,
+        Code::UpstreamMismatch,
+        Code::UpstreamIncomplete,
+        Code::UpstreamInvalid,
+        Code::UpstreamTooLarge,
+    ];
+    with_common(alloc, own.as_slice())
+}
+
+// These codes and those of any call on a repository.
+fn with_common(alloc: Global, own: &[Code]) -> Result<Vec<Code>, AllocError>
+    ensures { IfOk result (λ codes. codes.items ≡ own.now ++ common_codes) }
+{
+    let common = common_codes(alloc)?;
+    let mut codes = Vec::from_slice(alloc, own)?;
+    codes.extend_from_slice(common.as_slice())?;
+    Ok(codes)
+}
+
+// The codes of any call on a repository.
+fn common_codes(alloc: Global) -> Result<Vec<Code>, AllocError>
+    ensures { IfOk result (λ codes. codes.items ≡ common_codes) }
+{
+    let common = [
+        Code::StorageFault,
+        Code::NoMemory,
+        Code::PeerFault,
+        Code::HopRefused,
+        Code::NotBuilt,
+    ];
+    Vec::from_slice(alloc, common.as_slice())
+}
