@@ -1,0 +1,189 @@
+-- Which bytes the texts of a request have.
+use Rattle.std.proofs.Common.{◌≡◌, ◌≢◌, ◌⊎◌, ℕ, zero, suc, ◌+◌, ◌/◌, ◌%◌, ◌<◌, ◌≤◌, ◌^◌, ◌==◌, ◌||◌, ◌&&◌, Bool, true, false, cond, ltb, inl, inr, List, [], ◌∷◌, ◌++◌, length, slice_index, refl, sym, ap, ◌∙◌, subst, arith, ⊎_elim, IsUtf8, codes, decimal, All, nat_le, nat_lt, not, Some, None, Option}
+use Rattle.std.specs.Char.{is_ascii_digit}
+use Rattle.std.specs.Int.{w64, byte_at, bytes_high_first, to_be_bytes}
+use Rattle.std.specs.List.{AllPass, list_all}
+use Rattle.std.specs.Str.Parse.{digits_value}
+use Rattle.std.proofs.lemmas.Bool.{cases_eq, or_left, and_parts, cond_both, ltb-true, ltb-false}
+use Rattle.std.proofs.lemmas.Bool.Decides.{nat_tests}
+use Rattle.std.proofs.lemmas.Fmt.{decimal_by_steps, decimal_is_IsNumeral, decimal_nonempty, length-decimal-le}
+use Rattle.std.proofs.lemmas.List.Elements.{All-append, All-cons, All-from_recursion, All-nil, All-weaker}
+use Rattle.std.proofs.lemmas.List.Sums.{AllPass-from_list_all, list_all-from_AllPass}
+use Rattle.std.proofs.lemmas.Str.{IsUtf8-from_ascii}
+use Rattle.std.proofs.lemmas.Str.Ascii.{IsAscii-from_all}
+use lib.Utf8.{encode, encodes, scalar, scalars, scalar_cases}
+use Rattle.hex.specs.Hex.{IsBytes, encode_lower, encode_with, lower_digits}
+use Rattle.percent_encoding.proofs.PercentLemmas.{IsByte}
+use Rattle.zot_digest.specs.Digest.{IsDigest, algorithm, digest_text}
+use Rattle.zot_head.specs.Fields.{length_of}
+use Rattle.zot_head.proofs.RuleLemmas.{length_of_some}
+use Rattle.zot_names.specs.Name.{IsName, is_name_byte}
+use Rattle.zot_names.specs.Tag.{IsTag, is_tag_byte}
+use Rattle.zot_names.specs.Upload.{upload_text}
+use Rattle.zot_names.proofs.ByteLemmas.{name_bytes, tag_bytes}
+use Rattle.zot_model.specs.Valid.{IsShort}
+
+-- a visible byte of ASCII
+pub record IsVisible (c : ℕ) : Type 0 where
+  pub above : 32 < c
+  pub below : c < 127
+
+-- one of which paths are made: neither `?` nor `%`
+pub record IsPathByte (c : ℕ) : Type 0 where
+  pub visible : IsVisible c
+  pub question : c ≢ 63
+  pub percent : c ≢ 37
+
+-- one of which the parts of a path are made: nor `/`
+pub record IsPartByte (c : ℕ) : Type 0 where
+  pub path : IsPathByte c
+  pub slash : c ≢ 47
+
+-- a byte of a tag, or a colon
+abbrev pub is_part_byte : ℕ → Bool
+is_part_byte c = is_tag_byte c || (c == 58)
+
+part_byte : (c : ℕ) → is_part_byte c ≡ true → IsPartByte c
+part_byte c e =
+    record {
+      path = record {
+        visible = record { above = grind (arith, nat_tests); below = grind (arith, nat_tests) };
+        question = λ q. grind (arith, nat_tests);
+        percent = λ q. grind (arith, nat_tests);
+      };
+      slash = λ q. grind (arith, nat_tests);
+    }
+
+name_byte : (c : ℕ) → is_name_byte c ≡ true → IsPathByte c
+name_byte c e =
+    record {
+      visible = record { above = grind (arith, nat_tests); below = grind (arith, nat_tests) };
+      question = λ q. grind (arith, nat_tests);
+      percent = λ q. grind (arith, nat_tests);
+    }
+
+-- ---- texts of parts
+
+pub literal_part : (text : List ℕ) → list_all is_part_byte text ≡ true → All IsPartByte text
+literal_part text e = All-weaker (λ c. is_part_byte c ≡ true) IsPartByte part_byte text (AllPass-from_list_all is_part_byte text e)
+
+pub tag_part : (tag : List ℕ) → IsTag tag → All IsPartByte tag
+tag_part tag is =
+    All-weaker (λ c. is_tag_byte c ≡ true) IsPartByte (λ c h. part_byte c (or_left (is_tag_byte c) (c == 58) h)) tag (tag_bytes tag is)
+
+pub name_path : (name : List ℕ) → IsName name → All IsPathByte name
+name_path name is = All-weaker (λ c. is_name_byte c ≡ true) IsPathByte name_byte name (name_bytes name is)
+
+-- a test of each number below n, which computes
+abbrev parts_below : ℕ → Bool
+parts_below zero = true
+parts_below (suc n) = is_part_byte (slice_index lower_digits n) && parts_below n
+
+part_below : (n k : ℕ) → parts_below n ≡ true → k < n → is_part_byte (slice_index lower_digits k) ≡ true
+part_below zero k h lt = absurd (omega arith)
+part_below (suc n) k h lt =
+    let p = and_parts (is_part_byte (slice_index lower_digits n)) (parts_below n) h in
+    elim (cases_eq k n) [
+      | inl same ↦ rw same p.0
+      | inr other ↦ part_below n k p.1 (omega arith)
+    ]
+
+digit_part : (k : ℕ) → k < 16 → IsPartByte (slice_index lower_digits k)
+digit_part k lt = part_byte (slice_index lower_digits k) (part_below 16 k refl lt)
+
+hex_part : (bytes : List ℕ) → IsBytes bytes → All IsPartByte (encode_lower bytes)
+unfolding encode_with
+hex_part [] h = All-nil IsPartByte
+hex_part (b ∷ bytes) h =
+    let fits : b < 256 = h 0 in
+    let high : b / 16 < 16 = omega arith in
+    let low : b % 16 < 16 = omega arith in
+    All-cons IsPartByte (slice_index lower_digits (b / 16)) (slice_index lower_digits (b % 16) ∷ encode_lower bytes) (digit_part (b / 16) high)
+    (All-cons IsPartByte (slice_index lower_digits (b % 16)) (encode_lower bytes) (digit_part (b % 16) low) (hex_part bytes (λ k. h (suc k))))
+
+pub digest_part : (digest : List ℕ) → IsDigest digest → All IsPartByte (digest_text digest)
+unfolding digest_text
+digest_part digest is = All-append IsPartByte algorithm (encode_lower digest) (literal_part algorithm refl) (hex_part digest is.bytes)
+
+is_byte : (k number : ℕ) → byte_at k number < 256
+is_byte zero number = omega arith
+is_byte (suc k) number = let rest = number / 256 ^ suc k in let small : rest % 256 < 256 = omega arith in small
+
+are_bytes : (n number : ℕ) → IsBytes (bytes_high_first n number)
+are_bytes zero number i = omega arith
+are_bytes (suc n) number zero = is_byte n number
+are_bytes (suc n) number (suc i) = are_bytes n number i
+
+pub upload_part : (id : ℕ) → All IsPartByte (upload_text id)
+unfolding upload_text
+upload_part id = hex_part (to_be_bytes w64 id) (are_bytes 8 id)
+
+-- ---- numbers
+
+-- a decimal digit
+abbrev IsDigit : ℕ → Type 0
+IsDigit c = is_ascii_digit c ≡ true
+
+digit_is : (d : ℕ) → d < 10 → IsDigit (48 + d)
+digit_is d lt = grind (arith, nat_tests)
+
+decimal_digits : (n : ℕ) → n < 2 ^ 64 → All IsDigit (decimal n)
+decimal_digits n fits =
+    decimal_by_steps (λ k text. All IsDigit text)
+    (λ k lt. All-cons IsDigit (48 + k) [] (digit_is k lt) (All-nil IsDigit))
+    (λ k text le h. All-append IsDigit text ((48 + k % 10) ∷ []) h (All-cons IsDigit (48 + k % 10) [] (digit_is (k % 10) (omega arith)) (All-nil IsDigit)))
+    n fits
+
+digit_part_byte : (c : ℕ) → IsDigit c → IsPartByte c
+digit_part_byte c e = part_byte c (grind (arith, nat_tests))
+
+pub short_fits : (n : ℕ) → IsShort n → n < 2 ^ 64
+short_fits n h = omega arith
+
+pub decimal_part : (n : ℕ) → IsShort n → All IsPartByte (decimal n)
+decimal_part n short = All-weaker IsDigit IsPartByte digit_part_byte (decimal n) (decimal_digits n (short_fits n short))
+
+-- a number of at most 18 digits is read back
+pub length_of-decimal : (n : ℕ) → IsShort n → length_of (decimal n) ≡ Some n
+length_of-decimal n short =
+    let fits = short_fits n short in
+    let value = (decimal_is_IsNumeral n fits).1 in
+    sym (length_of_some (decimal n) n (decimal_nonempty n fits) (length-decimal-le 18 n (omega arith) short fits) (list_all-from_AllPass is_ascii_digit (decimal n) (decimal_digits n fits)) (sym value))
+
+-- ---- texts are bytes, and these are texts
+
+char_bytes : (c : ℕ) → scalar c ≡ true → All IsByte (encode c)
+unfolding encode
+char_bytes c e =
+    let most : c < 1114112 = ⊎_elim (λ h. omega arith) (λ h. h.1) (scalar_cases c e) in
+    let two = (192 + c / 64) ∷ (128 + c % 64) ∷ [] in
+    let three = (224 + c / 4096) ∷ (128 + c / 64 % 64) ∷ (128 + c % 64) ∷ [] in
+    let four = (240 + c / 262144) ∷ (128 + c / 4096 % 64) ∷ (128 + c / 64 % 64) ∷ (128 + c % 64) ∷ [] in
+    cond_both (ltb c 128) (c ∷ []) (cond (ltb c 2048) two (cond (ltb c 65536) three four)) (All IsByte)
+    (λ h. let lt = ltb-true c 128 h in All-from_recursion IsByte (c ∷ []) (omega arith, tt))
+    (λ h0. cond_both (ltb c 2048) two (cond (ltb c 65536) three four) (All IsByte)
+    (λ h. let lt = ltb-true c 2048 h in All-from_recursion IsByte two (omega arith, (omega arith, tt)))
+    (λ h1. cond_both (ltb c 65536) three four (All IsByte)
+    (λ h. let lt = ltb-true c 65536 h in All-from_recursion IsByte three (omega arith, (omega arith, (omega arith, tt))))
+    (λ h. All-from_recursion IsByte four (omega arith, (omega arith, (omega arith, (omega arith, tt)))))))
+
+chars_bytes : (cs : List ℕ) → scalars cs ≡ true → All IsByte (encodes cs)
+chars_bytes [] e = All-nil IsByte
+chars_bytes (c ∷ cs) e =
+    let p = and_parts (scalar c) (scalars cs) e in
+    All-append IsByte (encode c) (encodes cs) (char_bytes c p.0) (chars_bytes cs p.1)
+
+pub text_bytes : (text : List ℕ) → IsUtf8 text → All IsByte text
+text_bytes text is = subst (All IsByte) is.1.1 (chars_bytes is.0 is.1.0)
+
+pub visible_text : (text : List ℕ) → All IsVisible text → IsUtf8 text
+visible_text text all = IsUtf8-from_ascii text (IsAscii-from_all text (All-weaker IsVisible (λ c. c < 128) (λ c h. let lt = h.below in omega arith) text all))
+
+pub part_path : (text : List ℕ) → All IsPartByte text → All IsPathByte text
+part_path text all = All-weaker IsPartByte IsPathByte (λ c h. h.path) text all
+
+pub path_visible : (text : List ℕ) → All IsPathByte text → All IsVisible text
+path_visible text all = All-weaker IsPathByte IsVisible (λ c h. h.visible) text all
+
+pub part_text : (text : List ℕ) → All IsPartByte text → IsUtf8 text
+part_text text all = visible_text text (path_visible text (part_path text all))

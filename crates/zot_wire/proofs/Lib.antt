@@ -1,0 +1,6 @@
+pub mod ByteLemmas
+pub mod QueryLemmas
+pub mod PathLemmas
+pub mod FieldLemmas
+pub mod HeadLemmas
+pub mod SentLemmas

@@ -1,0 +1,10 @@
+//! What holds of the bytes of every request.
+ghost use Rattle.zot_model.specs.Valid.{IsValid};
+ghost use Rattle.zot_model.specs.declared.request.Request.{Request as ARequest};
+ghost use Rattle.zot_wire.specs.Sent.{IsSent};
+ghost use Rattle.zot_wire.specs.Values.{HasValues};
+
+/// The bytes of each valid request are a message at the front of whatever bytes they begin, and what it asks is the request (RFC 9112, sections 3 to 6; OCI Distribution Specification 1.1, "Endpoints").
+pub fn request_is_read()
+    ensures { (request : ARequest) → HasValues request → IsValid request → IsSent request }
+{}
