@@ -3,7 +3,7 @@ use Rattle.zot_model.specs.declared.request.Request.{Request}
 use Rattle.zot_model.specs.Valid.{IsValid}
 use Rattle.zot_wire.proofs.QueryLemmas.{value_of-form}
 use Rattle.zot_wire.proofs.PathLemmas.{named_path}
-use Rattle.zot_wire.proofs.FieldLemmas.{lines_print}
+use Rattle.zot_wire.proofs.HeadLemmas.{is_head}
 use Rattle.zot_wire.specs.Sent.{IsSent}
 use Rattle.zot_wire.specs.Values.{HasValues}
 
