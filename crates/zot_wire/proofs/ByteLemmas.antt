@@ -62,7 +62,22 @@ name_byte c e =
       percent = λ q. grind (arith, nat_tests);
     }
 
+-- the same, or a slash
+abbrev pub is_path_byte : ℕ → Bool
+is_path_byte c = is_part_byte c || (c == 47)
+
+path_byte : (c : ℕ) → is_path_byte c ≡ true → IsPathByte c
+path_byte c e =
+    record {
+      visible = record { above = grind (arith, nat_tests); below = grind (arith, nat_tests) };
+      question = λ q. grind (arith, nat_tests);
+      percent = λ q. grind (arith, nat_tests);
+    }
+
 -- ---- texts of parts
+
+pub literal_path : (text : List ℕ) → list_all is_path_byte text ≡ true → All IsPathByte text
+literal_path text e = All-weaker (λ c. is_path_byte c ≡ true) IsPathByte path_byte text (AllPass-from_list_all is_path_byte text e)
 
 pub literal_part : (text : List ℕ) → list_all is_part_byte text ≡ true → All IsPartByte text
 literal_part text e = All-weaker (λ c. is_part_byte c ≡ true) IsPartByte part_byte text (AllPass-from_list_all is_part_byte text e)
@@ -143,6 +158,12 @@ short_fits n h = omega arith
 pub decimal_part : (n : ℕ) → IsShort n → All IsPartByte (decimal n)
 decimal_part n short = All-weaker IsDigit IsPartByte digit_part_byte (decimal n) (decimal_digits n (short_fits n short))
 
+no_dash : (c : ℕ) → IsDigit c → c ≢ 45
+no_dash c e same = grind (arith, nat_tests)
+
+pub decimal_no_dash : (n : ℕ) → IsShort n → All (λ c. c ≢ 45) (decimal n)
+decimal_no_dash n short = All-weaker IsDigit (λ c. c ≢ 45) no_dash (decimal n) (decimal_digits n (short_fits n short))
+
 -- a number of at most 18 digits is read back
 pub length_of-decimal : (n : ℕ) → IsShort n → length_of (decimal n) ≡ Some n
 length_of-decimal n short =
@@ -187,3 +208,6 @@ path_visible text all = All-weaker IsPathByte IsVisible (λ c h. h.visible) text
 
 pub part_text : (text : List ℕ) → All IsPartByte text → IsUtf8 text
 part_text text all = visible_text text (path_visible text (part_path text all))
+
+pub path_is_text : (text : List ℕ) → All IsPathByte text → IsUtf8 text
+path_is_text text all = visible_text text (path_visible text all)

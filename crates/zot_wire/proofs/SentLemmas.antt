@@ -4,6 +4,7 @@ use Rattle.zot_model.specs.Valid.{IsValid}
 use Rattle.zot_wire.proofs.QueryLemmas.{value_of-form}
 use Rattle.zot_wire.proofs.PathLemmas.{named_path}
 use Rattle.zot_wire.proofs.HeadLemmas.{is_head}
+use Rattle.zot_wire.proofs.WrittenLemmas.{written}
 use Rattle.zot_wire.specs.Sent.{IsSent}
 use Rattle.zot_wire.specs.Values.{HasValues}
 
