@@ -7,6 +7,7 @@ use Rattle.std.proofs.lemmas.List.Splits.{length-slice_split, slice_split-cons_y
 use Rattle.percent_encoding.specs.Percent.{percent_decode}
 use Rattle.percent_encoding.proofs.PercentLemmas.{percent_decode-nil, percent_decode_not_percent}
 use Rattle.zot_route.specs.declared.form.Form.{Form}
+use Rattle.zot_route.specs.declared.form.Form.TheVariants as forms
 use Rattle.zot_route.specs.Path.{IsEnding, IsPath, decoded}
 use Rattle.zot_wire.proofs.ByteLemmas.{IsPartByte, IsPathByte, path_visible, visible_text}
 
@@ -78,3 +79,33 @@ named_path parts name rest form text ending e f ends =
       spelled = e ∙ ap (λ (p : List (List ℕ)). [] ∷ codes "v2" ∷ p) (split-join name rest ∙ ap (λ (p : List (List ℕ)). split name ++ p) f);
       is = record { ending = ending; ends = ends; spelled = refl };
     }
+
+-- ---- a path of each form
+
+pub base_path : (parts : List (List ℕ)) → parts ≡ split (codes "/v2/") → IsPath parts forms.Base [] []
+base_path parts e = record { behind = [] ∷ []; spelled = e; is = record { ending = [] ∷ []; ends = (refl, refl, inr refl); spelled = refl } }
+
+module _ (parts : List (List ℕ)) (name text : List ℕ) where
+  pub blob_path : parts ≡ split (codes "/v2/" ++ name ++ (codes "/blobs/" ++ text)) → All IsPartByte text → text ≢ codes "uploads" → IsPath parts forms.Blob (split name) text
+  blob_path e all other =
+      named_path parts name (codes "blobs/" ++ text) forms.Blob text (codes "blobs" ∷ text ∷ []) e (ap (λ (p : List (List ℕ)). codes "blobs" ∷ p) (split_part text all)) (other, refl)
+
+  pub upload_path : parts ≡ split (codes "/v2/" ++ name ++ (codes "/blobs/uploads/" ++ text)) → All IsPartByte text → text ≢ [] → IsPath parts forms.Upload (split name) text
+  upload_path e all some =
+      named_path parts name (codes "blobs/uploads/" ++ text) forms.Upload text (codes "blobs" ∷ codes "uploads" ∷ text ∷ []) e
+      (ap (λ (p : List (List ℕ)). codes "blobs" ∷ codes "uploads" ∷ p) (split_part text all)) (some, refl)
+
+  pub manifest_path : parts ≡ split (codes "/v2/" ++ name ++ (codes "/manifests/" ++ text)) → All IsPartByte text → IsPath parts forms.Manifest (split name) text
+  manifest_path e all =
+      named_path parts name (codes "manifests/" ++ text) forms.Manifest text (codes "manifests" ∷ text ∷ []) e (ap (λ (p : List (List ℕ)). codes "manifests" ∷ p) (split_part text all)) refl
+
+  pub referrers_path : parts ≡ split (codes "/v2/" ++ name ++ (codes "/referrers/" ++ text)) → All IsPartByte text → IsPath parts forms.Referrers (split name) text
+  referrers_path e all =
+      named_path parts name (codes "referrers/" ++ text) forms.Referrers text (codes "referrers" ∷ text ∷ []) e (ap (λ (p : List (List ℕ)). codes "referrers" ∷ p) (split_part text all)) refl
+
+module _ (parts : List (List ℕ)) (name : List ℕ) where
+  pub uploads_path : parts ≡ split (codes "/v2/" ++ name ++ codes "/blobs/uploads/") → IsPath parts forms.Uploads (split name) []
+  uploads_path e = named_path parts name (codes "blobs/uploads/") forms.Uploads [] (codes "blobs" ∷ codes "uploads" ∷ [] ∷ []) e refl (refl, inr refl)
+
+  pub tags_path : parts ≡ split (codes "/v2/" ++ name ++ codes "/tags/list") → IsPath parts forms.Tags (split name) []
+  tags_path e = named_path parts name (codes "tags/list") forms.Tags [] (codes "tags" ∷ codes "list" ∷ []) e refl (refl, refl)
