@@ -1,5 +1,5 @@
 -- What a request's path, query and fields ask is its call.
-use Rattle.std.proofs.Common.{◌≡◌, ◌≢◌, ℕ, ◌+◌, ◌<◌, ◌≤◌, ◌^◌, ◌==◌, Bool, true, false, Some, None, Ok, Err, Option, Result, IfSome, inl, inr, List, [], ◌∷◌, ◌++◌, All, codes, decimal, get_or, length, option_map, refl, sym, ap, subst, ◌∙◌, arith, append_assoc}
+use Rattle.std.proofs.Common.{◌≡◌, ◌≢◌, ℕ, ◌<◌, ◌==◌, Bool, true, false, Some, None, Ok, Option, Result, IfSome, List, [], ◌∷◌, ◌++◌, codes, decimal, get_or, option_map, refl, sym, ap, subst, ◌∙◌, arith, append_assoc}
 use Rattle.std.specs.List.{after_first, before_first}
 use Rattle.std.specs.Option.{option_to_list}
 use Rattle.std.proofs.lemmas.Bool.{le-leb}
@@ -23,9 +23,8 @@ use Rattle.zot_model.specs.Valid.{IsShort, IsSpan}
 use Rattle.zot_names.specs.Name.{IsName}
 use Rattle.zot_names.specs.Upload.{upload_text}
 use Rattle.zot_names.proofs.UploadLemmas.{decode_sized-upload_text}
-use Rattle.zot_route.specs.Asked.{Asked, IsFrom, IsId, IsReference, asks_post, asks_referrers, asks_tags, asks_upload, digest_or, finish_of, mount_of, needed_digest, number_or, on_digest, optional_digest, page_of, post_of, range_or}
-use Rattle.zot_route.specs.declared.verb.Verb.{Verb}
-use Rattle.zot_route.specs.declared.verb.Verb.TheVariants.{Get, Patch, Post, Put}
+use Rattle.zot_route.specs.Asked.{IsFrom, IsId, IsReference, asks_post, asks_referrers, asks_tags, asks_upload, digest_or, finish_of, needed_digest, number_or, on_digest, optional_digest, page_of, post_of}
+use Rattle.zot_route.specs.declared.verb.Verb.TheVariants.{Get, Post, Put}
 use Rattle.zot_route.specs.Lines.{AreMedia, AreMediaBy, is_hop, is_there, range_by, range_of, span_by, span_of, type_of}
 use Rattle.zot_spell.specs.Wire.{dash, id_text, media_value, pair_of, pairs_of, reference_text, span_text}
 use Rattle.zot_wire.specs.Values.{IsMount, IsRef, IsWord}

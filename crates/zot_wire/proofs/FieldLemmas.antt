@@ -1,5 +1,5 @@
 -- The field lines of a request, as they are written and as they are read.
-use Rattle.std.proofs.Common.{◌≡◌, ◌≢◌, ℕ, ◌+◌, ◌<◌, ◌≤◌, ◌^◌, ◌==◌, ◌||◌, ◌&&◌, Bool, true, false, cond, Some, None, Option, IfSome, option_map, List, [], ◌∷◌, ◌++◌, All, codes, decimal, map, length, nat_lt, reverse, refl, sym, ap, subst, ◌∙◌, arith, append_assoc, append-nil}
+use Rattle.std.proofs.Common.{◌≡◌, ℕ, ◌<◌, ◌≤◌, ◌==◌, ◌&&◌, Bool, true, false, cond, Some, None, Option, IfSome, List, [], ◌∷◌, ◌++◌, All, codes, decimal, map, length, nat_lt, reverse, refl, sym, ap, subst, ◌∙◌, arith, append_assoc, append-nil}
 use Rattle.std.specs.List.{AllPass, flat_map, list_all, list_any}
 use Rattle.std.specs.Option.{option_to_list}
 use Rattle.std.proofs.lemmas.Bool.{and_right, cond-false, ne_eqb, or_from}
@@ -15,7 +15,7 @@ use Rattle.std.proofs.lemmas.List.{reverse-append}
 use Rattle.zot_head.specs.declared.field.Field.{Field}
 use Rattle.zot_head.specs.declared.framing.Framing.{Framing}
 use Rattle.zot_head.specs.declared.framing.Framing.TheVariants as framings
-use Rattle.zot_head.specs.Fields.{closes_of, expects_of, framing_by, framing_by_length, framing_of, has_body, is_close, is_expectation, is_word, length_of, values_of}
+use Rattle.zot_head.specs.Fields.{closes_of, expects_of, framing_by, framing_by_length, framing_of, has_body, is_close, is_expectation, is_word, values_of}
 use Rattle.zot_head.specs.Front.{field_of}
 use Rattle.zot_model.specs.declared.span.Span.{Span}
 use Rattle.zot_model.specs.Valid.{IsShort}
@@ -156,7 +156,7 @@ module _ (media range hop size : Option (List ℕ)) where
         flat_map-append print_field (opt_line (codes "Content-Range") range) (opt_line (codes "X-Zot-Cluster-Hop-Count") hop ++ opt_line (codes "Content-Length") size),
         flat_map-append print_field (opt_line (codes "X-Zot-Cluster-Hop-Count") hop) (opt_line (codes "Content-Length") size),
       ) (λ i. opt_print (codes "Host") host i ++ (opt_print (codes "Content-Type") media i ++ (opt_print (codes "Content-Range") range i
-          ++ (opt_print (codes "X-Zot-Cluster-Hop-Count") hop i ++ opt_print (codes "Content-Length") size i))))
+      ++ (opt_print (codes "X-Zot-Cluster-Hop-Count") hop i ++ opt_print (codes "Content-Length") size i))))
 
   pub lines_are : IsSeen media → IsSeen range → IsSeen hop → IsSeen size → All IsField lines_of
   unfolding is_token_byte
@@ -179,7 +179,7 @@ module _ (media range hop size : Option (List ℕ)) where
         map-append field_of (opt_line (codes "Content-Range") range) (opt_line (codes "X-Zot-Cluster-Hop-Count") hop ++ opt_line (codes "Content-Length") size),
         map-append field_of (opt_line (codes "X-Zot-Cluster-Hop-Count") hop) (opt_line (codes "Content-Length") size),
       ) (λ i. opt_read (codes "Host") host (literal_visible (codes "member") refl) i ++ (opt_read (codes "Content-Type") media a i ++ (opt_read (codes "Content-Range") range b i
-          ++ (opt_read (codes "X-Zot-Cluster-Hop-Count") hop c i ++ opt_read (codes "Content-Length") size d i))))
+      ++ (opt_read (codes "X-Zot-Cluster-Hop-Count") hop c i ++ opt_read (codes "Content-Length") size d i))))
 
   pub few_lines : length lines_of ≤ 5
   few_lines =
@@ -188,7 +188,10 @@ module _ (media range hop size : Option (List ℕ)) where
         length-append (opt_line (codes "Content-Type") media) (opt_line (codes "Content-Range") range ++ (opt_line (codes "X-Zot-Cluster-Hop-Count") hop ++ opt_line (codes "Content-Length") size)),
         length-append (opt_line (codes "Content-Range") range) (opt_line (codes "X-Zot-Cluster-Hop-Count") hop ++ opt_line (codes "Content-Length") size),
         length-append (opt_line (codes "X-Zot-Cluster-Hop-Count") hop) (opt_line (codes "Content-Length") size),
-        at_most_one (codes "Content-Type") media, at_most_one (codes "Content-Range") range, at_most_one (codes "X-Zot-Cluster-Hop-Count") hop, at_most_one (codes "Content-Length") size,
+        at_most_one (codes "Content-Type") media,
+        at_most_one (codes "Content-Range") range,
+        at_most_one (codes "X-Zot-Cluster-Hop-Count") hop,
+        at_most_one (codes "Content-Length") size,
       )
 
   -- the values of a key, field by field

@@ -1,17 +1,17 @@
 -- A request's bytes are a head and a body.
-use Rattle.std.proofs.Common.{◌≡◌, ℕ, ◌+◌, ◌<◌, ◌≤◌, Bool, true, false, cond, Some, None, Option, IfSome, IsUtf8, List, [], ◌∷◌, ◌++◌, All, codes, take, drop, length, map, refl, sym, ap, subst, ◌∙◌, arith, append_assoc, append-nil, unwrap_or}
-use Rattle.std.specs.List.{AllPass, flat_map, list_all}
+use Rattle.std.proofs.Common.{◌≡◌, ℕ, ◌+◌, ◌<◌, ◌≤◌, true, false, Some, None, Option, IfSome, List, [], ◌∷◌, ◌++◌, All, codes, take, drop, length, refl, sym, ap, subst, ◌∙◌, arith, append_assoc, append-nil, unwrap_or}
+use Rattle.std.specs.List.{list_all}
 use Rattle.std.proofs.lemmas.Bool.{le-ltb}
 use Rattle.std.proofs.lemmas.Bool.Decides.{nat_tests}
 use Rattle.std.proofs.lemmas.List.{drop_at, length-append, take_all, take_at}
-use Rattle.std.proofs.lemmas.List.Elements.{All-append, All-weaker}
+use Rattle.std.proofs.lemmas.List.Elements.{All-weaker}
 use Rattle.std.proofs.lemmas.List.Sums.{AllPass-from_list_all}
 use Rattle.httparse.specs.Grammar.{IsRequestHead, IsToken, ReadsRequest, RequestHead, is_token_byte, is_uri_byte, print_request, print_version}
 use Rattle.httparse.specs.Grammar as grammar
 use Rattle.httparse.proofs.GrammarLemmas.{cons-append}
 use Rattle.zot_head.specs.declared.field.Field.{Field}
 use Rattle.zot_head.specs.declared.head.Head.{Head}
-use Rattle.zot_head.specs.Front.{Front, HasParts, IsCrowded, IsFront, IsFrontBy, IsHead, Message, headed, with_body}
+use Rattle.zot_head.specs.Front.{Front, IsCrowded, IsFront, IsFrontBy, IsHead, Message, headed, with_body}
 use Rattle.zot_head.specs.Limits.{head_limit, line_limit}
 use Rattle.zot_head.specs.Lines.{Ends, extent, head_end, lines_in}
 use Rattle.zot_head.proofs.PrintLemmas.{head_end-print, head_ends, lines_in-print}

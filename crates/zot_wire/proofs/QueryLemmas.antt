@@ -1,17 +1,16 @@
 -- A query that was written is read as its pairs, and cut from its path.
-use Rattle.std.proofs.Common.{◌≡◌, ◌≢◌, ℕ, Bool, true, false, cond, ◌<◌, ◌==◌, Some, None, Option, List, [], ◌∷◌, ◌++◌, All, IsUtf8, bytes_eq, codes, inl, inr, map, length, refl, sym, ap, subst, ◌∙◌, arith, ⊎_elim, append-nil, if◌then◌else◌}
-use Rattle.std.specs.List.{slice_split}
+use Rattle.std.proofs.Common.{◌≡◌, ◌≢◌, ℕ, Bool, true, false, cond, ◌<◌, Some, None, Option, List, [], ◌∷◌, ◌++◌, All, IsUtf8, bytes_eq, map, refl, ap, ◌∙◌, arith, ⊎_elim, append-nil, if◌then◌else◌}
 use Rattle.std.specs.Str.Lossy.{utf8_lossy}
 use Rattle.std.proofs.lemmas.Bool.{cond_both}
 use Rattle.std.proofs.lemmas.Bool.Decides.{nat_tests}
 use Rattle.std.proofs.lemmas.List.Elements.{All-append, All-cons, All-head, All-nil, All-tail, All-weaker}
 use Rattle.std.proofs.lemmas.Str.{utf8_lossy-IsUtf8}
-use Rattle.form_urlencoded.specs.Form.{IsUnchanged, append_pair, byte_serialize, decode, extend_pairs, is_nonempty, parse, raw_pairs, separator, serialize_pair, split_once}
+use Rattle.form_urlencoded.specs.Form.{IsUnchanged, append_pair, byte_serialize, decode, extend_pairs, is_nonempty, raw_pairs, separator, serialize_pair, split_once}
 use Rattle.form_urlencoded.proofs.FormLemmas.{All-byte_serialize, IsBytePair, IsSerializedByte, round_trip, split_once_after_at, split_once_after_none, split_once_before_at, split_once_before_none}
 use Rattle.zot_route.specs.Path.{decoded, parts_of, query_of}
 use Rattle.zot_route.specs.Query.{first_of, text_of, value_of, values_in}
 use Rattle.zot_spell.specs.Wire.{query_text}
-use Rattle.zot_wire.proofs.ByteLemmas.{IsPathByte, IsVisible, path_visible, text_bytes}
+use Rattle.zot_wire.proofs.ByteLemmas.{IsPathByte, IsVisible, text_bytes}
 
 -- the first value of a key among pairs
 abbrev pub first_value : List ℕ → List (List ℕ × List ℕ) → Option (List ℕ)

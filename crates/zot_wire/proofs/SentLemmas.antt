@@ -1,19 +1,24 @@
 -- A request's bytes are a message, which asks the request.
-use Rattle.std.proofs.Common.{◌≡◌, ℕ, ◌≤◌, Bool, true, false, Some, None, Ok, Option, IfSome, IsUtf8, inl, inr, List, [], ◌∷◌, ◌++◌, codes, length, refl, sym, ap, subst, ◌∙◌, append_assoc, unwrap_or}
+use Rattle.std.proofs.Common.{◌≡◌, ℕ, ◌+◌, ◌≤◌, Bool, Some, None, Ok, Option, IfSome, IsUtf8, inr, List, [], ◌++◌, append-nil, arith, codes, drop, length, refl, sym, ap, subst, take, ◌∙◌, append_assoc, unwrap_or}
 use Rattle.std.specs.List.{AllByRecursion, join_with_byte}
 use Rattle.std.proofs.lemmas.List.Splits.{join_with_byte-slice_split}
 use Rattle.zot_digest.specs.Digest.{IsDigest, digest_text}
 use Rattle.zot_head.specs.declared.head.Head.{Head}
 use Rattle.zot_head.specs.Front.{IsFront, IsHead, Message, with_body}
 use Rattle.zot_head.specs.Limits.{head_limit}
-use Rattle.zot_media.specs.declared.media.Media.{Media}
+use Rattle.zot_head.specs.Lines.{head_end}
+use Rattle.zot_head.proofs.FrontLemmas.{head_unique}
+use Rattle.zot_head.proofs.LineLemmas.{head_end_is}
+use Rattle.zot_head.proofs.PrintLemmas.{head_end-print}
+use Rattle.httparse.specs.Grammar.{print_request}
+use Rattle.std.proofs.lemmas.List.{drop_at, length-append, take_at}
+use Rattle.zot_route.proofs.OneLemmas.{routes_one}
 use Rattle.zot_media.specs.declared.reference.Reference.{Reference}
 use Rattle.zot_model.specs.declared.call.Call.{Call}
 use Rattle.zot_model.specs.declared.call.Call.TheVariants as calls
-use Rattle.zot_model.specs.declared.mount.Mount.{Mount}
 use Rattle.zot_model.specs.declared.request.Request.{Request}
 use Rattle.zot_model.specs.declared.span.Span.{Span}
-use Rattle.zot_model.specs.Valid.{IsSpan, IsValid}
+use Rattle.zot_model.specs.Valid.{IsSpan, IsValid, IsValidCall, body_limit, manifest_limit}
 use Rattle.zot_names.specs.Name.{IsName}
 use Rattle.zot_route.specs.declared.form.Form.{Form}
 use Rattle.zot_route.specs.declared.form.Form.TheVariants as forms
@@ -21,12 +26,12 @@ use Rattle.zot_route.specs.declared.routed.Routed.TheVariants as routes
 use Rattle.zot_route.specs.declared.verb.Verb.TheVariants.{Get, Patch, Post, Put}
 use Rattle.zot_route.specs.Asked.{IsFrom, asks_post, asks_referrers, asks_tags, asks_upload, verb_of}
 use Rattle.zot_route.specs.Lines.{is_hop, range_of}
-use Rattle.zot_route.specs.Path.{IsPath, decoded, parts_of, query_of, slash}
+use Rattle.zot_route.specs.Path.{IsPath, parts_of, query_of, slash}
 use Rattle.zot_route.specs.Query.{value_of}
 use Rattle.zot_route.specs.Routes.{Asks, Names, Routes, in_query}
 use Rattle.zot_spell.specs.Wire.{body_in, form_text, id_text, media_in, media_value, method_text, pairs_of, path_of, range_in, reference_text, request_bytes, target_text}
-use Rattle.zot_wire.specs.Sent.{IsSent, body_of}
-use Rattle.zot_wire.specs.Values.{HasCallValues, HasValues, IsRef}
+use Rattle.zot_wire.specs.Sent.{HasShortHead, IsSent, body_of}
+use Rattle.zot_wire.specs.Values.{HasValues, IsRef}
 use Rattle.zot_wire.proofs.AskLemmas.{are_media, digest_asked, finish_asked, hop_read, id_named, id_some, not_uploads, post_asked, range_read, referrers_asked, refers, tags_asked}
 use Rattle.zot_wire.proofs.ByteLemmas.{digest_part}
 use Rattle.zot_wire.proofs.FieldLemmas.{hop_value, hop_values, media_values, range_value, range_values, size_value}
@@ -71,9 +76,16 @@ asked : (request : Request) (values : HasValues request) (form : Form) (parts : 
     → Names form parts request.name → Asks form text (head_of request) (body_of request) (Ok request.call) → Routes (head_of request) (body_of request) (routes.Request request)
 asked request values form parts text path names asks =
     inr (
-      target_texts request values, form, parts, text, path,
+      target_texts request values,
+      form,
+      parts,
+      text,
+      path,
       inr (
-        request.name, names, Ok request.call, asks,
+        request.name,
+        names,
+        Ok request.call,
+        asks,
         ap (λ (h : Bool). routes.Request (record { name = request.name; call = request.call; hop = h })) (sym (hop_is request)),
       ),
     )
@@ -143,9 +155,17 @@ module _ (name : List ℕ) (hop : Bool) where
       (id, id_named id values.call.0, finish_asked id range digest body values.call.1 ∙ (λ i. asks_upload Put id (sym r i) (sym d i) body))
   call_asked (calls.UploadState id) values valid = upload_asked (calls.UploadState id) id refl values (id, id_named id values.call, refl)
   call_asked (calls.PutManifest reference media body) values valid =
-      manifest_asked (calls.PutManifest reference media body) reference values.call refl values
-      (Ok reference, refers reference values.call, inr (valid.call, media, are_media (fields_in (req name (calls.PutManifest reference media body) hop)) body media
-      (media_values (Some (media_value media)) None (hop_value hop) (size_value (Some body))), refl))
+      manifest_asked (calls.PutManifest reference media body) reference values.call refl values (
+        Ok reference,
+        refers reference values.call,
+        inr (
+          valid.call,
+          media,
+          are_media (fields_in (req name (calls.PutManifest reference media body) hop)) body media
+              (media_values (Some (media_value media)) None (hop_value hop) (size_value (Some body))),
+          refl,
+        ),
+      )
   call_asked (calls.GetManifest reference) values valid = manifest_asked (calls.GetManifest reference) reference values.call refl values (Ok reference, refers reference values.call, refl)
   call_asked (calls.HeadManifest reference) values valid = manifest_asked (calls.HeadManifest reference) reference values.call refl values (Ok reference, refers reference values.call, refl)
   call_asked (calls.DeleteManifest reference) values valid = manifest_asked (calls.DeleteManifest reference) reference values.call refl values (Ok reference, refers reference values.call, refl)
@@ -174,12 +194,13 @@ module _ (request : Request) (is : IsHead (head_bytes request) (head_of request)
   unfolding body_of
   body_framed = framed limit (head_of request) (body_in request.call) more fits
 
-  read_in_front : length (head_bytes request) ≤ head_limit → IsFront limit (request_bytes request ++ more) (Message (head_of request) (body_of request) more)
+  read_in_front : HasShortHead request → IsFront limit (request_bytes request ++ more) (Message (head_of request) (body_of request) more)
   read_in_front short =
       let apart : request_bytes request ++ more ≡ head_bytes request ++ (body_of request ++ more) =
       ap (λ (t : List ℕ). t ++ more) (bytes_apart request) ∙ append_assoc (head_bytes request) (body_of request) more in
+      let few : length (head_bytes request) ≤ head_limit = omega (arith, short, ap length (bytes_apart request), length-append (head_bytes request) (body_of request)) in
       subst (λ (t : List ℕ). IsFront limit t (Message (head_of request) (body_of request) more)) (sym apart)
-      (head_in_front limit (head_bytes request) (body_of request ++ more) (head_of request) (Message (head_of request) (body_of request) more) is short (sym body_framed))
+      (head_in_front limit (head_bytes request) (body_of request ++ more) (head_of request) (Message (head_of request) (body_of request) more) is few (sym body_framed))
 
 pub request_sent : (request : Request) → HasValues request → IsValid request → IsSent request
 request_sent request values valid =
@@ -187,11 +208,62 @@ request_sent request values valid =
     record {
       text = head_bytes request;
       head = head_of request;
-      sent = record {
-        bytes = bytes_apart request;
-        is = is;
-        framed = λ limit more fits. body_framed request is limit more fits;
-        routes = routes_back request.name request.call request.hop values valid;
-      };
+      bytes = bytes_apart request;
+      is = is;
+      framed = λ limit more fits. body_framed request is limit more fits;
+      asks = routes_back request.name request.call request.hop values valid;
       read = λ limit more short fits. read_in_front request is limit more fits short;
     }
+
+-- ---- the body keeps its limit
+
+manifest_fits : (n : ℕ) → n ≤ manifest_limit → n ≤ body_limit
+unfolding manifest_limit body_limit
+manifest_fits n h = omega arith
+
+call_fits : (call : Call) → IsValidCall call → length (unwrap_or (body_in call) []) ≤ body_limit
+unfolding body_in
+call_fits calls.Base h = omega arith
+call_fits (calls.GetBlob digest) h = omega arith
+call_fits (calls.HeadBlob digest) h = omega arith
+call_fits (calls.DeleteBlob digest) h = omega arith
+call_fits (calls.Post mount digest body) h = h
+call_fits (calls.Patch id range body) h = h.1
+call_fits (calls.Finish id range digest body) h = h.1
+call_fits (calls.UploadState id) h = omega arith
+call_fits (calls.PutManifest reference media body) h = manifest_fits (length body) h
+call_fits (calls.GetManifest reference) h = omega arith
+call_fits (calls.HeadManifest reference) h = omega arith
+call_fits (calls.DeleteManifest reference) h = omega arith
+call_fits (calls.Tags n last) h = omega arith
+call_fits (calls.Referrers digest filter) h = omega arith
+
+pub body_fits : (request : Request) → IsValid request → length (body_of request) ≤ body_limit
+unfolding body_of
+body_fits request valid = call_fits request.call valid.call
+
+-- ---- a request's bytes are those of no other
+
+-- bytes that begin with a head say how long it is
+head_ends_first : (text body : List ℕ) (head : Head) → IsHead text head → head_end (text ++ body) ≡ Some (length text)
+head_ends_first text body head is =
+    let same : text ≡ print_request is.request = is.reads.1 ∙ append-nil (print_request is.request) in
+    head_end_is.stays text body (length text) (ap head_end same ∙ head_end-print is.request is.reads.0 ∙ ap (λ (t : List ℕ). Some (length t)) (sym same))
+
+pub request_one : (request other : Request) → HasValues request → IsValid request → HasValues other → IsValid other → request_bytes request ≡ request_bytes other → request ≡ other
+request_one request other values valid values' valid' e =
+    let a = request_sent request values valid in
+    let b = request_sent other values' valid' in
+    let joined : a.text ++ body_of request ≡ b.text ++ body_of other = sym a.bytes ∙ e ∙ b.bytes in
+    let ends = head_ends_first a.text (body_of request) a.head a.is in
+    let ends' = head_ends_first b.text (body_of other) b.head b.is in
+    let sizes : length a.text ≡ length b.text = cc (ends, ends', ap head_end joined) in
+    let text : a.text ≡ b.text =
+    sym (take_at a.text (body_of request) (length b.text) sizes) ∙ ap (take (length b.text)) joined ∙ take_at b.text (body_of other) (length b.text) refl in
+    let body : body_of request ≡ body_of other =
+    sym (drop_at a.text (body_of request) (length b.text) sizes) ∙ ap (drop (length b.text)) joined ∙ drop_at b.text (body_of other) (length b.text) refl in
+    let head : a.head ≡ b.head = head_unique b.text a.head b.head (subst (λ (t : List ℕ). IsHead t a.head) text a.is) b.is in
+    let asks : Routes b.head (body_of other) (routes.Request request) =
+    subst (λ (h : Head). Routes h (body_of other) (routes.Request request)) head (subst (λ (t : List ℕ). Routes a.head t (routes.Request request)) body a.asks) in
+    let one = routes_one b.head (body_of other) (routes.Request request) (routes.Request other) asks b.asks in
+    cc one

@@ -1,5 +1,5 @@
 -- A valid request has the bytes that its head needs.
-use Rattle.std.proofs.Common.{◌≡◌, ℕ, ◌+◌, ◌<◌, ◌≤◌, ◌^◌, Bool, true, false, Some, None, Option, IfSome, IsUtf8, List, [], ◌∷◌, ◌++◌, All, codes, decimal, length, option_map, refl, sym, ap, subst, ◌∙◌, arith, unwrap_or}
+use Rattle.std.proofs.Common.{◌≡◌, ℕ, ◌≤◌, Bool, true, false, Some, None, Option, IfSome, IsUtf8, List, [], ◌++◌, All, codes, decimal, length, option_map, refl, arith, unwrap_or}
 use Rattle.std.specs.List.{list_all}
 use Rattle.std.proofs.lemmas.List.Elements.{All-append, All-cons, All-nil}
 use Rattle.zot_digest.specs.Digest.{IsDigest, digest_text}
@@ -15,7 +15,7 @@ use Rattle.zot_model.specs.declared.request.Request.{Request}
 use Rattle.zot_model.specs.declared.span.Span.{Span}
 use Rattle.zot_model.specs.Valid.{IsShort, IsSpan, IsValid, IsValidCall, body_limit, manifest_limit}
 use Rattle.zot_names.specs.Name.{IsName}
-use Rattle.zot_spell.specs.Wire.{body_in, dash, form_text, id_text, media_in, media_value, mount_pairs, pair_of, pairs_of, path_of, query_text, range_in, reference_text, span_text, target_text}
+use Rattle.zot_spell.specs.Wire.{body_in, dash, form_text, id_text, media_in, media_value, mount_pairs, pair_of, pairs_of, path_of, query_text, range_in, reference_text, target_text}
 use Rattle.zot_wire.specs.Values.{HasCallValues, HasValues, IsMount, IsRef}
 use Rattle.zot_wire.proofs.ByteLemmas.{IsPartByte, IsPathByte, IsVisible, decimal_part, digest_part, is_part_byte, is_path_byte, literal_part, literal_path, name_path, part_path, part_text, path_is_text, path_visible, tag_part, upload_part}
 use Rattle.zot_wire.proofs.FieldLemmas.{IsSeen, hop_value, literal_visible, range_value, size_value}

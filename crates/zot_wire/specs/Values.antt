@@ -1,5 +1,5 @@
 -- What a request's values are, by their types.
-use Rattle.std.specs.Prelude.{ℕ, ◌<◌, ◌^◌, List, Option, IfSome, IsUtf8, ⊤}
+use Rattle.std.specs.Prelude.{ℕ, ◌<◌, ◌^◌, IfSome, IsUtf8, ⊤}
 use Rattle.zot_digest.specs.Digest.{IsDigest}
 use Rattle.zot_media.specs.declared.reference.Reference.{Reference}
 use Rattle.zot_media.specs.declared.reference.Reference.TheVariants as references

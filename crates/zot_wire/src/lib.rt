@@ -2,5 +2,9 @@
 #![tactic(auto)]
 
 mod laws;
+#[cfg(test)]
+mod tests;
+mod values;
 
-pub use crate::laws::request_is_read;
+pub use crate::laws::{request_is_one, request_is_read};
+pub use crate::values::has_values;
