@@ -20,7 +20,7 @@ POST /v2/lib/a/blobs/uploads/ HTTP/1.1|Host: member|Content-Length: 0||
 POST /v2/a/blobs/uploads/?mount=$ HTTP/1.1|Host: member|Content-Length: 0||
 POST /v2/a/blobs/uploads/?mount=$&from=lib%2Fb&digest=$ HTTP/1.1|Host: member|X-Zot-Cluster-Hop-Count: 1|Content-Length: 3||abc
 PATCH /v2/a/blobs/uploads/0000000000000001 HTTP/1.1|Host: member|Content-Range: 0-999999999999999999|Content-Length: 3||abc
-PATCH /v2/a/blobs/uploads/- HTTP/1.1|Host: member|Content-Length: 2||||
+PATCH /v2/a/blobs/uploads/- HTTP/1.1|Host: member|Content-Length: 4||||
 PUT /v2/a/blobs/uploads/ffffffffffffffff?digest=$ HTTP/1.1|Host: member|Content-Range: 7-7|X-Zot-Cluster-Hop-Count: 1|Content-Length: 0||
 GET /v2/a/blobs/uploads/- HTTP/1.1|Host: member||
 PUT /v2/a/manifests/v1 HTTP/1.1|Host: member|Content-Type: application/vnd.docker.distribution.manifest.list.v2+json|Content-Length: 2||{}
@@ -56,7 +56,7 @@ fn asked(alloc: Global, bytes: &[u8]) -> Result<Option<Request>, Fail> {
         Framing::Length(size) => size,
         Framing::Chunked => return Ok(None),
     };
-    if size != body.len() {
+    if size != body.len() as u64 {
         return Ok(None);
     }
     match route(alloc, &head, Vec::from_slice(alloc, body)?)? {
