@@ -6,3 +6,4 @@ pub mod HeadLemmas
 pub mod WrittenLemmas
 pub mod AskLemmas
 pub mod SentLemmas
+pub mod SizeLemmas

@@ -1,5 +1,5 @@
 -- A request's bytes are a message, which asks the request.
-use Rattle.std.proofs.Common.{◌≡◌, ℕ, ◌+◌, ◌≤◌, Bool, Some, None, Ok, Option, IfSome, IsUtf8, inr, List, [], ◌++◌, append-nil, arith, codes, drop, length, refl, sym, ap, subst, take, ◌∙◌, append_assoc, unwrap_or}
+use Rattle.std.proofs.Common.{◌≡◌, ℕ, ◌≤◌, Bool, Some, None, Ok, Option, IfSome, IsUtf8, inr, List, [], ◌++◌, append-nil, arith, codes, drop, length, refl, sym, ap, subst, take, ◌∙◌, append_assoc, unwrap_or}
 use Rattle.std.specs.List.{AllByRecursion, join_with_byte}
 use Rattle.std.proofs.lemmas.List.Splits.{join_with_byte-slice_split}
 use Rattle.zot_digest.specs.Digest.{IsDigest, digest_text}

@@ -135,22 +135,23 @@ media_seen (Some Index) = literal_visible (media_text Index) refl
 media_seen (Some DockerImage) = literal_visible (media_text DockerImage) refl
 media_seen (Some DockerList) = literal_visible (media_text DockerList) refl
 
-call_media : (call : Call) → IsSeen (media_in call)
+-- what holds of the text of all media holds of a call's
+pub call_media : (P : List ℕ → Type 0) → ((media : Option Media) → P (media_value media)) → (call : Call) → IfSome (media_in call) P
 unfolding media_in
-call_media calls.Base = tt
-call_media (calls.GetBlob digest) = tt
-call_media (calls.HeadBlob digest) = tt
-call_media (calls.DeleteBlob digest) = tt
-call_media (calls.Post mount digest body) = tt
-call_media (calls.Patch id range body) = tt
-call_media (calls.Finish id range digest body) = tt
-call_media (calls.UploadState id) = tt
-call_media (calls.PutManifest reference media body) = media_seen media
-call_media (calls.GetManifest reference) = tt
-call_media (calls.HeadManifest reference) = tt
-call_media (calls.DeleteManifest reference) = tt
-call_media (calls.Tags n last) = tt
-call_media (calls.Referrers digest filter) = tt
+call_media P h calls.Base = tt
+call_media P h (calls.GetBlob digest) = tt
+call_media P h (calls.HeadBlob digest) = tt
+call_media P h (calls.DeleteBlob digest) = tt
+call_media P h (calls.Post mount digest body) = tt
+call_media P h (calls.Patch id range body) = tt
+call_media P h (calls.Finish id range digest body) = tt
+call_media P h (calls.UploadState id) = tt
+call_media P h (calls.PutManifest reference media body) = h media
+call_media P h (calls.GetManifest reference) = tt
+call_media P h (calls.HeadManifest reference) = tt
+call_media P h (calls.DeleteManifest reference) = tt
+call_media P h (calls.Tags n last) = tt
+call_media P h (calls.Referrers digest filter) = tt
 
 part_seen : (text : List ℕ) → All IsPartByte text → All IsVisible text
 part_seen text all = path_visible text (part_path text all)
@@ -166,22 +167,23 @@ range_seen (Some span) h =
     (All-append IsVisible (decimal span.start) (codes "-") (part_seen (decimal span.start) (decimal_part span.start (start_short span h))) (literal_visible (codes "-") refl))
     (part_seen (decimal span.end) (decimal_part span.end h.end))
 
-call_range : (call : Call) → IsValidCall call → IsSeen (range_value (range_in call))
+-- a call's range is one
+pub call_span : (call : Call) → IsValidCall call → IfSome (range_in call) IsSpan
 unfolding range_in
-call_range calls.Base h = tt
-call_range (calls.GetBlob digest) h = tt
-call_range (calls.HeadBlob digest) h = tt
-call_range (calls.DeleteBlob digest) h = tt
-call_range (calls.Post mount digest body) h = tt
-call_range (calls.Patch id range body) h = range_seen range h.0
-call_range (calls.Finish id range digest body) h = range_seen range h.0
-call_range (calls.UploadState id) h = tt
-call_range (calls.PutManifest reference media body) h = tt
-call_range (calls.GetManifest reference) h = tt
-call_range (calls.HeadManifest reference) h = tt
-call_range (calls.DeleteManifest reference) h = tt
-call_range (calls.Tags n last) h = tt
-call_range (calls.Referrers digest filter) h = tt
+call_span calls.Base h = tt
+call_span (calls.GetBlob digest) h = tt
+call_span (calls.HeadBlob digest) h = tt
+call_span (calls.DeleteBlob digest) h = tt
+call_span (calls.Post mount digest body) h = tt
+call_span (calls.Patch id range body) h = h.0
+call_span (calls.Finish id range digest body) h = h.0
+call_span (calls.UploadState id) h = tt
+call_span (calls.PutManifest reference media body) h = tt
+call_span (calls.GetManifest reference) h = tt
+call_span (calls.HeadManifest reference) h = tt
+call_span (calls.DeleteManifest reference) h = tt
+call_span (calls.Tags n last) h = tt
+call_span (calls.Referrers digest filter) h = tt
 
 hop_seen : (hop : Bool) → IsSeen (hop_value hop)
 hop_seen true = literal_visible (codes "1") refl
@@ -197,7 +199,7 @@ manifest_short : (n : ℕ) → n ≤ manifest_limit → IsShort n
 unfolding manifest_limit
 manifest_short n h = omega arith
 
-call_short : (call : Call) → IsValidCall call → IfSome (body_in call) (λ body. IsShort (length body))
+pub call_short : (call : Call) → IsValidCall call → IfSome (body_in call) (λ body. IsShort (length body))
 unfolding body_in
 call_short calls.Base h = tt
 call_short (calls.GetBlob digest) h = tt
@@ -223,8 +225,8 @@ written request values valid =
     let short = call_short request.call valid.call in
     record {
       target = target_visible request values;
-      media = call_media request.call;
-      range = call_range request.call valid.call;
+      media = call_media (λ text. All IsVisible text) media_seen request.call;
+      range = range_seen (range_in request.call) (call_span request.call valid.call);
       hop = hop_seen request.hop;
       size = size_seen (body_in request.call) short;
       short = short;

@@ -3,6 +3,8 @@ use Rattle.std.specs.Prelude.{◌≡◌, ◌+◌, ◌≤◌, ℕ, List, [], ◌+
 use Rattle.zot_head.specs.declared.head.Head.{Head}
 use Rattle.zot_head.specs.Front.{IsFront, IsHead, Message, with_body}
 use Rattle.zot_head.specs.Limits.{head_limit}
+use Rattle.zot_model.specs.declared.call.Call.{Call}
+use Rattle.zot_model.specs.declared.call.Call.TheVariants as calls
 use Rattle.zot_model.specs.declared.request.Request.{Request}
 use Rattle.zot_model.specs.Valid.{IsValid}
 use Rattle.zot_route.specs.declared.routed.Routed.TheVariants as routes
@@ -37,3 +39,9 @@ pub record IsReadable (request : Request) : Type 0 where
   pub values : HasValues request
   pub valid : IsValid request
   pub short : HasShortHead request
+
+-- how many bytes the text has that no grammar bounds: the tag behind which a list begins, or an artifact type
+abbrev pub free_size : Call → ℕ
+free_size (calls.Tags n last) = length (unwrap_or last [])
+free_size (calls.Referrers digest filter) = length (unwrap_or filter [])
+free_size _ = 0

@@ -6,5 +6,5 @@ mod laws;
 mod tests;
 mod values;
 
-pub use crate::laws::{request_is_one, request_is_read};
+pub use crate::laws::{head_is_short, request_is_one, request_is_read};
 pub use crate::values::has_values;

@@ -1,5 +1,5 @@
 //! Each kind of request, from its bytes to itself and back.
-use crate::{has_values, request_is_one, request_is_read};
+use crate::{has_values, head_is_short, request_is_one, request_is_read};
 use std::alloc::Global;
 use std::test::Fail;
 use zot_head::{Found, Framing, find_head, read_head};
@@ -70,6 +70,7 @@ fn there_and_back(rt: HostRuntime) -> Result<(), Fail> {
     let alloc = rt.alloc();
     request_is_read();
     request_is_one();
+    head_is_short();
     for line in REQUESTS.lines() {
         let bytes = wire(alloc, line)?;
         let Some(request) = asked(alloc, bytes.as_bytes())? else {
