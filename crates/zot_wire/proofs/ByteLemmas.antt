@@ -1,9 +1,9 @@
 -- Which bytes the texts of a request have.
-use Rattle.std.proofs.Common.{◌≡◌, ◌≢◌, ℕ, zero, suc, ◌+◌, ◌/◌, ◌%◌, ◌<◌, ◌^◌, ◌==◌, ◌||◌, ◌&&◌, Bool, true, cond, ltb, inl, inr, List, [], ◌∷◌, slice_index, refl, sym, subst, arith, ⊎_elim, IsUtf8, decimal, All, Some}
+use Rattle.std.proofs.Common.{◌≡◌, ◌≢◌, ℕ, ◌+◌, ◌/◌, ◌%◌, ◌<◌, ◌^◌, ◌==◌, ◌||◌, Bool, true, cond, ltb, List, [], ◌∷◌, refl, sym, subst, arith, ⊎_elim, IsUtf8, decimal, All, Some}
 use Rattle.std.specs.Char.{is_ascii_digit}
-use Rattle.std.specs.Int.{w64, byte_at, bytes_high_first, to_be_bytes}
+use Rattle.std.specs.Int.{w64, to_be_bytes}
 use Rattle.std.specs.List.{list_all}
-use Rattle.std.proofs.lemmas.Bool.{cases_eq, or_left, and_parts, cond_both, ltb-true}
+use Rattle.std.proofs.lemmas.Bool.{or_left, and_parts, cond_both, ltb-true}
 use Rattle.std.proofs.lemmas.Bool.Decides.{nat_tests}
 use Rattle.std.proofs.lemmas.Fmt.{decimal_by_steps, decimal_is_IsNumeral, decimal_nonempty, length-decimal-le}
 use Rattle.std.proofs.lemmas.List.Elements.{All-append, All-cons, All-from_recursion, All-nil, All-weaker}
@@ -11,7 +11,10 @@ use Rattle.std.proofs.lemmas.List.Sums.{AllPass-from_list_all, list_all-from_All
 use Rattle.std.proofs.lemmas.Str.{IsUtf8-from_ascii}
 use Rattle.std.proofs.lemmas.Str.Ascii.{IsAscii-from_all}
 use lib.Utf8.{encode, encodes, scalar, scalars, scalar_cases}
-use Rattle.hex.specs.Hex.{IsBytes, encode_lower, encode_with, lower_digits}
+use Rattle.hex.specs.Hex.{decode_sized, encode_lower, is_hex_digit}
+use Rattle.hex.proofs.HexLemmas.{IsOk-decode_sized, decode_sized-encode_lower}
+use Rattle.std.specs.Prelude.{IsOk, Ok}
+use Rattle.zot_names.proofs.UploadLemmas.{decode_sized-upload_text}
 use Rattle.percent_encoding.proofs.PercentLemmas.{IsByte}
 use Rattle.zot_digest.specs.Digest.{IsDigest, algorithm, digest_text}
 use Rattle.zot_head.specs.Fields.{length_of}
@@ -88,49 +91,22 @@ tag_part tag is =
 pub name_path : (name : List ℕ) → IsName name → All IsPathByte name
 name_path name is = All-weaker (λ c. is_name_byte c ≡ true) IsPathByte name_byte name (name_bytes name is)
 
--- a test of each number below n, which computes
-abbrev parts_below : ℕ → Bool
-parts_below zero = true
-parts_below (suc n) = is_part_byte (slice_index lower_digits n) && parts_below n
+-- a hexadecimal digit, in either case
+hex_byte : (c : ℕ) → is_hex_digit c ≡ true → IsPartByte c
+hex_byte c e = part_byte c (grind (arith, nat_tests))
 
-part_below : (n k : ℕ) → parts_below n ≡ true → k < n → is_part_byte (slice_index lower_digits k) ≡ true
-part_below zero k h lt = absurd (omega arith)
-part_below (suc n) k h lt =
-    let p = and_parts (is_part_byte (slice_index lower_digits n)) (parts_below n) h in
-    elim (cases_eq k n) [
-      | inl same ↦ rw same p.0
-      | inr other ↦ part_below n k p.1 (omega arith)
-    ]
-
-digit_part : (k : ℕ) → k < 16 → IsPartByte (slice_index lower_digits k)
-digit_part k lt = part_byte (slice_index lower_digits k) (part_below 16 k refl lt)
-
-hex_part : (bytes : List ℕ) → IsBytes bytes → All IsPartByte (encode_lower bytes)
-unfolding encode_with
-hex_part [] h = All-nil IsPartByte
-hex_part (b ∷ bytes) h =
-    let fits : b < 256 = h 0 in
-    let high : b / 16 < 16 = omega arith in
-    let low : b % 16 < 16 = omega arith in
-    All-cons IsPartByte (slice_index lower_digits (b / 16)) (slice_index lower_digits (b % 16) ∷ encode_lower bytes) (digit_part (b / 16) high)
-    (All-cons IsPartByte (slice_index lower_digits (b % 16)) (encode_lower bytes) (digit_part (b % 16) low) (hex_part bytes (λ k. h (suc k))))
+-- a text that `hex` reads
+hex_part : (text : List ℕ) (n : ℕ) (bytes : List ℕ) → decode_sized text n ≡ Ok bytes → All IsPartByte text
+hex_part text n bytes e =
+    let is_read : IsOk (decode_sized text n) = rw e refl in
+    All-weaker (λ c. is_hex_digit c ≡ true) IsPartByte hex_byte text ((IsOk-decode_sized text n).0 is_read).1
 
 pub digest_part : (digest : List ℕ) → IsDigest digest → All IsPartByte (digest_text digest)
 unfolding digest_text
-digest_part digest is = All-append IsPartByte algorithm (encode_lower digest) (literal_part algorithm refl) (hex_part digest is.bytes)
-
-is_byte : (k number : ℕ) → byte_at k number < 256
-is_byte zero number = omega arith
-is_byte (suc k) number = let rest = number / 256 ^ suc k in let small : rest % 256 < 256 = omega arith in small
-
-are_bytes : (n number : ℕ) → IsBytes (bytes_high_first n number)
-are_bytes zero number i = omega arith
-are_bytes (suc n) number zero = is_byte n number
-are_bytes (suc n) number (suc i) = are_bytes n number i
+digest_part digest is = All-append IsPartByte algorithm (encode_lower digest) (literal_part algorithm refl) (hex_part (encode_lower digest) 32 digest (decode_sized-encode_lower digest 32 is.long is.bytes))
 
 pub upload_part : (id : ℕ) → All IsPartByte (upload_text id)
-unfolding upload_text
-upload_part id = hex_part (to_be_bytes w64 id) (are_bytes 8 id)
+upload_part id = hex_part (upload_text id) 8 (to_be_bytes w64 id) (decode_sized-upload_text id)
 
 -- ---- numbers
 

@@ -74,10 +74,10 @@ raw_value value all =
     All-cons (λ c. is_value_byte c ≡ true) 32 value refl (All-weaker IsVisible (λ c. is_value_byte c ≡ true) visible_value value all)
 
 -- a name that is a token
-abbrev pub IsName : List ℕ → Type 0
-IsName name = (0 < length name) × (list_all is_token_byte name ≡ true)
+abbrev pub IsFieldName : List ℕ → Type 0
+IsFieldName name = (0 < length name) × (list_all is_token_byte name ≡ true)
 
-opt_is : (name : List ℕ) (value : Option (List ℕ)) → IsName name → IsSeen value → All IsField (opt_line name value)
+opt_is : (name : List ℕ) (value : Option (List ℕ)) → IsFieldName name → IsSeen value → All IsField (opt_line name value)
 opt_is name None is seen = All-nil IsField
 opt_is name (Some value) is seen =
     All-cons IsField (line name value) []

@@ -56,9 +56,6 @@ unfolding reference_text
 reference_size (references.Tag tag) is = tag_size tag is
 reference_size (references.Digest digest) is = omega (arith, digest_size digest is)
 
-behind : (front text : List ℕ) (n m : ℕ) → length front ≤ n → length text ≤ m → length (front ++ text) ≤ n + m
-behind front text n m a b = omega (arith, length-append front text)
-
 path_size : (call : Call) → HasCallValues call → length (path_of call) ≤ 139
 unfolding path_of
 path_size calls.Base h = omega arith
@@ -103,7 +100,6 @@ separator_size form = cond_both (is_nonempty form) (38 ∷ []) [] (λ t. length 
 form_size : (form : List ℕ) (pairs : List (List ℕ × List ℕ)) → length (extend_pairs form pairs) ≤ length form + weight pairs
 form_size form [] = omega arith
 form_size form (pair ∷ pairs) =
-    let longer = append_pair form pair.0 pair.1 in
     let one : length (append_pair form pair.0 pair.1) ≤ length form + (2 + 3 * length pair.0 + 3 * length pair.1) =
     omega (
       arith,
@@ -175,7 +171,6 @@ target_size : (request : Request) → HasValues request → IsValid request → 
 unfolding target_text
 target_size request values valid =
     let front : length (codes "/v2/") ≡ 4 = refl in
-    let form = form_text (pairs_of request.call) in
     omega (
       arith,
       front,
