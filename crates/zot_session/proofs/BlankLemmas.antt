@@ -1,8 +1,12 @@
 -- Empty lines alone are as long as the empty lines in front.
-use Rattle.std.proofs.Common.{◌≡◌, ℕ, suc, eqb, Bool, true, false, List, [], ◌∷◌, length, refl, sym, ◌∙◌, ◌⊎◌, inl, inr, arith}
+use Rattle.std.proofs.Common.{◌≡◌, ℕ, suc, eqb, ◌==◌, ◌&&◌, not, if◌then◌else◌, Bool, true, false, List, [], ◌∷◌, length, refl, sym, ◌∙◌, ◌⊎◌, inl, inr, arith}
 use Rattle.std.proofs.lemmas.Bool.Decides.{nat_tests}
 use Rattle.zot_head.specs.Lines.{blank_len}
-use Rattle.zot_session.specs.Messages.{blank_after}
+
+-- nothing but empty lines, where `cr` says that a CR stands before the bytes
+abbrev pub blank_after : Bool → List ℕ → Bool
+blank_after cr [] = not cr
+blank_after cr (b ∷ bytes) = if b == 10 then blank_after false bytes else (if b == 13 && not cr then blank_after true bytes else false)
 
 cases : (t : Bool) → (t ≡ true) ⊎ (t ≡ false)
 cases true = inl refl

@@ -20,7 +20,6 @@ use Rattle.zot_head.proofs.LineLemmas.{IsSettled, ends_found, extent_cut, extent
 use Rattle.zot_model.specs.Valid.{body_limit}
 use Rattle.zot_session.specs.Messages.{HasHead, IsPartial, IsRead, IsRefused, Owes, continue_of, is_blank}
 use Rattle.zot_session.specs.Receiving.{IsHeading}
-use Rattle.zot_session.proofs.BlankLemmas.{blank_is}
 
 -- ---- what was found
 
@@ -148,7 +147,7 @@ pub not_blank : (text more : List ℕ) (head : Head) → IsHeading text head →
 not_blank text more head h =
     let none = no_section (text ++ more) (length text) (heading_ended (text ++ more) (length text) (heading_ends text more head h)) in
     let other : eqb (blank_len (text ++ more)) (length (text ++ more)) ≡ false = grind (arith, nat_tests, none) in
-    blank_is (text ++ more) ∙ other
+    other
 
 -- ---- the body of a whole message
 

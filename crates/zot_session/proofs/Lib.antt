@@ -7,3 +7,4 @@ pub mod ReceiveLemmas
 pub mod ChunkLemmas
 pub mod TurnLemmas
 pub mod BlankLemmas
+pub mod WireLemmas

@@ -161,38 +161,35 @@ body_owes head was mid text came later h reads split =
 body_taken : (was mid is : Waiting) (came later : List ℕ) → mid.taken ≡ was.taken + length came → is.taken ≡ mid.taken + length later → is.taken ≡ was.taken + length (came ++ later)
 body_taken was mid is came later h k = let longer = length-append came later in omega arith
 
+-- what came for a head and then for its body, with what is owed behind the head
+record CameBoth (head : Head) (was is : Waiting) (came : List ℕ) (left left' : Option (List ℕ)) : Type 0 where
+  reads : Takes left came left'
+  taken : is.taken ≡ was.taken + length came
+  within : was.taken ≤ budget → is.taken ≤ budget
+  owes : Owes (was.bytes ++ came) (continue_of head)
+
+came_both : (head : Head) (was mid is : Waiting) (text passed came later : List ℕ) (left left' left'' : Option (List ℕ)) → IsHeading text head → IsRead head.framing → Came was mid text came left left'
+    → Came mid is passed later left' left'' → CameBoth head was is (came ++ later) left left''
+came_both head was mid is text passed came later left left' left'' h reads c d = record {
+  reads = Takes-append left left' left'' came later c.reads d.reads;
+  taken = body_taken was mid is came later c.taken d.taken;
+  within = λ k. d.within (c.within k);
+  owes = body_owes head was mid text came later h reads c.bytes;
+}
+
 -- a message that is whole
 pub whole_message : (head : Head) (body : Vec ℕ Global) (was mid is : Waiting) (left left' left'' held held' : Option (List ℕ)) → Heads (headings.Whole head) was mid left left' → IsRead head.framing
     → Appends held (continue_of head) held' → Bodies (bodies.Whole body) head.framing mid is left' left'' → Receives (received.Whole head body) was is left left'' held held'
 whole_message head body was mid is left left' left'' held held' h reads written b =
-    let c = h.2 in
-    let d = b.2 in (
-      h.1 ++ b.1,
-      Takes-append left left' left'' h.1 b.1 c.reads d.reads,
-      body_taken was mid is h.1 b.1 c.taken d.taken,
-      (λ k. d.within (c.within k)),
-      body_front head was mid h.0 h.1 b.1 (λ x. fronts.Message x body.items is.bytes) h.3 c.bytes b.3,
-      body_owes head was mid h.0 h.1 b.1 h.3 reads c.bytes,
-      written,
-    )
+    let both = came_both head was mid is h.0 b.0 h.1 b.1 left left' left'' h.3 reads h.2 b.2 in
+    (h.1 ++ b.1, both.reads, both.taken, both.within, body_front head was mid h.0 h.1 b.1 (λ x. fronts.Message x body.items is.bytes) h.3 h.2.bytes b.3, both.owes, written)
 
 -- a message that is refused for its body
 pub refused_in_body : (head : Head) (reply : Reply) (was mid is : Waiting) (left left' left'' held held' : Option (List ℕ)) → Heads (headings.Whole head) was mid left left' → IsRead head.framing
     → Appends held (continue_of head) held' → Bodies (bodies.Refused reply) head.framing mid is left' left'' → Receives (received.Refused reply) was is left left'' held held'
 refused_in_body head reply was mid is left left' left'' held held' h reads written b =
-    let c = h.2 in
-    let d = b.2 in (
-      h.1 ++ b.1,
-      Takes-append left left' left'' h.1 b.1 c.reads d.reads,
-      body_taken was mid is h.1 b.1 c.taken d.taken,
-      (λ k. d.within (c.within k)),
-      b.3,
-      body_front head was mid h.0 h.1 b.1 (λ x. fronts.Refused b.3) h.3 c.bytes b.4,
-      b.5,
-      continue_of head,
-      body_owes head was mid h.0 h.1 b.1 h.3 reads c.bytes,
-      written,
-    )
+    let both = came_both head was mid is h.0 b.0 h.1 b.1 left left' left'' h.3 reads h.2 b.2 in
+    (h.1 ++ b.1, both.reads, both.taken, both.within, b.3, body_front head was mid h.0 h.1 b.1 (λ x. fronts.Refused b.3) h.3 h.2.bytes b.4, b.5, continue_of head, both.owes, written)
 
 -- where the source ends a connection within a body, it ends it at the rest
 cut_source : (end : End) (begun taken : ℕ) (rest : List ℕ) (left : Option (List ℕ)) → is_blank rest ≡ false → begun + length rest ≡ taken → CutEnds end begun taken left → SourceEnds end taken rest left
@@ -208,23 +205,13 @@ cut_source ends.NoMemory begun taken rest left blank size h = tt
 pub ends_in_body : (end : End) (head : Head) (begun : ℕ) (was mid is : Waiting) (left left' left'' held held' : Option (List ℕ)) → Heads (headings.Whole head) was mid left left' → IsRead head.framing
     → begun + length was.bytes ≡ was.taken → Appends held (continue_of head) held' → BodyEnds end head.framing begun mid is left' left'' → ReceiveEnds end was is left left'' held held'
 ends_in_body end head begun was mid is left left' left'' held held' h reads at written b =
-    let c = h.2 in
-    let d = b.pieces in
+    let both = came_both head was mid is h.0 b.passed h.1 b.came left left' left'' h.3 reads h.2 b.pieces in
     let came = h.1 ++ b.came in
-    let taken = body_taken was mid is h.1 b.came c.taken d.taken in
+    let taken = both.taken in
     let longer = length-append was.bytes came in
     let size : begun + length (was.bytes ++ came) ≡ is.taken = omega arith in
-    let owes = body_owes head was mid h.0 h.1 b.came h.3 reads c.bytes in
-    let blank : is_blank (was.bytes ++ came) ≡ false = subst (λ x. is_blank x ≡ false) (sym (joined was mid h.0 h.1 b.came c.bytes)) (not_blank h.0 (mid.bytes ++ b.came) head h.3) in
-    record {
-      came = came;
-      text = continue_of head;
-      reads = Takes-append left left' left'' h.1 b.came c.reads d.reads;
-      taken = taken;
-      within = λ k. d.within (c.within k);
-      writes = written;
-      ends = by b.ends owes blank size;
-    }
+    let blank : is_blank (was.bytes ++ came) ≡ false = subst (λ x. is_blank x ≡ false) (sym (joined was mid h.0 h.1 b.came h.2.bytes)) (not_blank h.0 (mid.bytes ++ b.came) head h.3) in
+    record { came = came; text = continue_of head; reads = both.reads; taken = taken; within = both.within; writes = written; ends = by b.ends both.owes blank size }
   where
     by : (end ≡ ends.NoMemory) ⊎ (BodyIs head.framing (mid.bytes ++ b.came) (λ x. fronts.Partial) × CutEnds end begun is.taken left'') → Owes (was.bytes ++ (h.1 ++ b.came)) (continue_of head)
         → is_blank (was.bytes ++ (h.1 ++ b.came)) ≡ false → begun + length (was.bytes ++ (h.1 ++ b.came)) ≡ is.taken
@@ -282,6 +269,22 @@ length_left mid is before after n size adds same share within =
     let grown = ap length adds in
     let rest = ap (λ (w : Waiting). w.bytes) same in
     (omega arith, λ other. (omega (arith, other), rest ∙ drop_all n mid.bytes (omega (arith, other))))
+
+-- The body's share of what waits joined it: it has at most its size, and where it hasn't that, nothing waits.
+pub record Joins (was is : Waiting) (body came : List ℕ) (size : ℕ) (left left' : Option (List ℕ)) : Type 0 where
+  pub pieces : Came was is body came left left'
+  pub within : length body ≤ size
+  pub short : length body ≢ size → BodyIs (framings.Length size) (was.bytes ++ came) (λ head. fronts.Partial)
+
+pub length_joins : (was mid is : Waiting) (before after came waits still : List ℕ) (n some size : ℕ) (left left' : Option (List ℕ)) → size ≤ body_limit → Came was mid before came left left' → length before ≤ size
+    → after ≡ before ++ take n still → still ≡ mid.bytes → is ≡ record mid { bytes = drop n mid.bytes } → n ≡ min (size - some) (length waits) → waits ≡ mid.bytes → some ≡ length before
+    → Joins was is after came size left left'
+length_joins was mid is before after came waits still n some size left left' fits c within adds same passed share waiting all =
+    let added : after ≡ before ++ take n mid.bytes = adds ∙ ap (λ (b : List ℕ). before ++ take n b) same in
+    let shared : n ≡ min (size - length before) (length mid.bytes) = share ∙ ap (λ (k : ℕ). min (size - k) (length waits)) all ∙ ap (λ (b : List ℕ). min (size - length before) (length b)) waiting in
+    let came_on = length_passed was mid is before after came n left left' c added passed in
+    let rest = length_left mid is before after n size added passed shared within in
+    record { pieces = came_on; within = rest.0; short = λ other. let few = rest.1 other in length_short was is after came size left left' came_on fits few.0 few.1 }
 
 -- ---- a piece, or none
 

@@ -1,16 +1,19 @@
 -- The messages of a connection: what stands at the front of its bytes, one behind another (RFC 9112, sections 2.1 and 9.3).
-use Rattle.std.specs.Prelude.{◌≡◌, ⊤, ℕ, ◌≤◌, ◌==◌, ◌&&◌, not, Bool, true, false, if◌then◌else◌, List, [], ◌∷◌, take, ◌⊎◌, codes}
+use Rattle.std.specs.Prelude.{◌≡◌, ⊤, ℕ, ◌≤◌, ◌==◌, Bool, if◌then◌else◌, List, [], ◌∷◌, length, take, ◌⊎◌, codes}
 use Rattle.zot_head.specs.declared.framing.Framing.{Framing}
 use Rattle.zot_head.specs.declared.framing.Framing.TheVariants as framings
 use Rattle.zot_head.specs.declared.head.Head.{Head}
 use Rattle.zot_head.specs.Front.{IsFront, IsHead, Refusal}
 use Rattle.zot_head.specs.Front as fronts
 use Rattle.zot_head.specs.Limits.{head_limit}
-use Rattle.zot_head.specs.Lines.{Ends, extent, head_end}
+use Rattle.zot_head.specs.Lines.{Ends, blank_len, extent, head_end}
 use Rattle.zot_model.specs.declared.code.Code.TheVariants as reasons
 use Rattle.zot_model.specs.declared.reply.Reply.{Reply}
+use Rattle.zot_model.specs.declared.request.Request.{Request}
 use Rattle.zot_model.specs.Reply.{refusal}
 use Rattle.zot_model.specs.Valid.{body_limit}
+use Rattle.zot_route.specs.declared.routed.Routed.TheVariants as routes
+use Rattle.zot_route.specs.Routes.{Routes}
 
 -- a message: its head and its body
 pub record Message : Type 0 where
@@ -34,6 +37,10 @@ abbrev pub Messages : List ℕ → List Message → List ℕ → Type 0
 Messages bytes [] rest = bytes ≡ rest
 Messages bytes (message ∷ messages) rest = (behind : List ℕ) × Stands bytes message behind × Messages behind messages rest
 
+-- a message asks that request
+abbrev pub Asks : Message → Request → Type 0
+Asks message request = Routes message.head message.body (routes.Request request)
+
 -- the status of a message that is refused for its head or for the form of its body (RFC 9110, section 15.5; RFC 6585, section 5)
 abbrev pub status_of : Refusal → ℕ
 status_of fronts.HeadInvalid = 400
@@ -46,13 +53,9 @@ refused_as fronts.HeadInvalid = refusal 400 reasons.HeadInvalid
 refused_as fronts.SizeInvalid = refusal 413 reasons.SizeInvalid
 refused_as fronts.HeadTooLong = refusal 431 reasons.HeadTooLong
 
--- nothing but empty lines, of LF or CR LF, where `cr` says that a CR stands before the bytes
-abbrev pub blank_after : Bool → List ℕ → Bool
-blank_after cr [] = not cr
-blank_after cr (b ∷ bytes) = if b == 10 then blank_after false bytes else (if b == 13 && not cr then blank_after true bytes else false)
-
+-- nothing but empty lines, of LF or CR LF
 abbrev pub is_blank : List ℕ → Bool
-is_blank bytes = blank_after false bytes
+is_blank bytes = blank_len bytes == length bytes
 
 -- what is written before a body is read that the sender holds back (RFC 9110, section 15.2.1)
 unfoldable pub continue_text : List ℕ

@@ -1,5 +1,5 @@
 //! Sessions over requests that are counted.
-use crate::{Answers, End, session};
+use crate::{Answers, End, end_is_one, requests_are_read, session};
 use std::alloc::Global;
 use std::test::Fail;
 use zot_fakes::{MemorySink, MemorySource};
@@ -59,6 +59,8 @@ fn run(alloc: Global, input: &[u8], piece: usize, read: u64, write: u64) -> Resu
 
 #[test]
 fn ends_in_pieces(rt: HostRuntime) -> Result<(), Fail> {
+    end_is_one();
+    requests_are_read();
     for (input, end, asked, front) in [
         (
             b"GET /v2/ HTTP/1.0\r\n\r\nGET /v2/ HTTP/1.1\r\n\r\n".as_slice(),
