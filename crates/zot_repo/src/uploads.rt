@@ -62,7 +62,7 @@ impl Repository {
                 length,
                 status: 202,
             },
-            Err(error) => refused(id, error),
+            Err(refusal) => refused(id, refusal),
         }
     }
 

@@ -27,6 +27,6 @@ returns c moment =
           patch_made (repo c.self.inside.sessions) (repo c.append.new.self) c.in-Some.id c.args.range c.as_slice.result.now c.match-append.result w.in-Ok.ensures.taken
           (w.result-is ∙ ap (λ n. Session c.in-Some.id n 202) w.in-Ok.ensures.length) (ap repo w.in-Ok.ensures.ok) moment
       | in-Err w ↦
-          patch_refused (repo c.self.inside.sessions) (repo c.append.new.self) c.in-Some.id c.args.range c.as_slice.result.now w.in-Err.error c.match-append.result w.in-Err.ensures.refused
+          patch_refused (repo c.self.inside.sessions) (repo c.append.new.self) c.in-Some.id c.args.range c.as_slice.result.now w.in-Err.refusal c.match-append.result w.in-Err.ensures.refused
           (w.result-is ∙ w.refused-in-Err.ensures) (ap repo w.in-Err.ensures.stays) moment
     ])
