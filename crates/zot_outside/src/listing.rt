@@ -1,5 +1,9 @@
 //! What lies in one folder.
-ghost use Rattle.std.specs.Prelude.{◌≡◌, ◌↔◌, IsTrue, string_bytes};
+ghost use Rattle.std.specs.Prelude.{◌≡◌, ◌↔◌, IfOk, IfSome, IsOkAnd, IsTrue, IsSorted, map, option_map, string_bytes};
+ghost use Rattle.std.proofs.Props.{props};
+ghost use Rattle.std.specs.Fs.{dir_entry_name};
+ghost use Rattle.std.specs.String.{string_cmp};
+ghost use Rattle.zot_outside.specs.Listing.{FindsAbove, IsEntry, LiesIn, child_path};
 
 use crate::files::is_absent;
 use crate::paths::names_object;
@@ -13,6 +17,7 @@ use std::{fs, io};
 pub struct Listing {
     folder: String,
     paths: Vec<String>,
+    ghost ordered: { IsSorted string_cmp paths.items } by { Prim.hlevel props },
 }
 
 impl Listing {
@@ -22,7 +27,9 @@ impl Listing {
         alloc: Global,
         root: &str,
         folder: &str,
-    ) -> io::Result<Listing> {
+    ) -> io::Result<Listing>
+        ensures folder { IfOk result (λ listing. string_bytes listing.folder ≡ folder.now) }
+    {
         let mut paths = Vec::new(alloc);
         if let Some(entries) = open_folder(rt, alloc, root, folder)? {
             for entry in entries {
@@ -44,7 +51,9 @@ impl Listing {
     }
 
     /// Whether its folder is this one or lies above it.
-    pub fn leads_to(&self, folder: &str) -> bool {
+    pub fn leads_to(&self, folder: &str) -> bool
+        ensures { IsTrue result ↔ LiesIn (string_bytes self.now.folder) folder.now }
+    {
         match folder.strip_prefix(self.folder.as_str()) {
             Some(rest) => self.folder.is_empty() || rest.is_empty() || rest.starts_with('/'),
             None => false,
@@ -52,7 +61,9 @@ impl Listing {
     }
 
     /// The least of the paths that is greater than another.
-    pub fn above(&self, bound: &str) -> Option<&String> {
+    pub fn above(&self, bound: &str) -> Option<&String>
+        ensures { FindsAbove (map string_bytes self.now.paths.items) bound.now (option_map (λ path. string_bytes path.now) result) }
+    {
         let paths = self.paths.as_slice();
         paths.get(paths.partition_point(|path| path.as_str() <= bound))
     }
@@ -85,7 +96,9 @@ fn path_of<R: Files + Drop>(
     alloc: Global,
     folder: &str,
     entry: io::Result<DirEntry<R, Global>>,
-) -> io::Result<Option<String>> {
+) -> io::Result<Option<String>>
+    ensures { IfOk result (λ found. IfSome found (λ path. IsOkAnd entry (λ one. IsEntry folder.now (dir_entry_name one) (string_bytes path)))) }
+{
     let entry = match entry {
         Ok(entry) => entry,
         Err(error) if error.kind() == ErrorKind::InvalidFilename => return Ok(None),
@@ -105,7 +118,9 @@ fn path_of<R: Files + Drop>(
 }
 
 // The path of a name in a folder.
-fn child(alloc: Global, folder: &str, name: &str) -> Result<String, AllocError> {
+fn child(alloc: Global, folder: &str, name: &str) -> Result<String, AllocError>
+    ensures { IfOk result (λ path. string_bytes path ≡ child_path folder.now name.now) }
+{
     if folder.is_empty() {
         String::from_str(alloc, name)
     } else {

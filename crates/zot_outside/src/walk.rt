@@ -1,4 +1,8 @@
 //! The files below a folder, one after another by their paths.
+ghost use Rattle.std.specs.Prelude.{◌≡◌, IfOk, IfSome, [], string_bytes};
+ghost use Rattle.std.specs.declared.cmp.Ordering.TheVariants.{Less};
+ghost use Rattle.zot_outside.specs.Objects.{path_cmp};
+
 use crate::listing::Listing;
 use std::alloc::{AllocError, Global};
 use std::fs::Files;
@@ -14,7 +18,9 @@ pub struct Walk {
 
 impl Walk {
     /// A walk that hasn't begun. Takes no memory.
-    pub fn new(alloc: Global) -> Self {
+    pub fn new(alloc: Global) -> Self
+        ensures { result.listings.items ≡ [] }
+    {
         Walk {
             last: String::new(alloc),
             listings: Vec::new(alloc),
@@ -22,7 +28,9 @@ impl Walk {
     }
 
     /// Forgets what was read.
-    pub fn forget(&mut self) {
+    pub fn forget(&mut self)
+        ensures { self.new.listings.items ≡ [] }
+    {
         self.listings.clear();
     }
 
@@ -33,7 +41,9 @@ impl Walk {
         alloc: Global,
         root: &str,
         after: &str,
-    ) -> io::Result<Option<String>> {
+    ) -> io::Result<Option<String>>
+        ensures { IfOk result (λ found. IfSome found (λ path. path_cmp after.now (string_bytes path) ≡ Less)) }
+    {
         if self.last.as_str() != after {
             self.forget();
         }
@@ -51,7 +61,9 @@ impl Walk {
         alloc: Global,
         root: &str,
         after: &str,
-    ) -> io::Result<Option<String>> {
+    ) -> io::Result<Option<String>>
+        ensures { IfOk result (λ found. IfSome found (λ path. path_cmp after.now (string_bytes path) ≡ Less)) }
+    {
         let mut folder = String::from_str(alloc, above(after))?;
         let mut bound = String::from_str(alloc, after)?;
         for _ in 0..u64::MAX {
@@ -64,10 +76,7 @@ impl Walk {
                     None => return Ok(Some(path)),
                 },
                 None if folder.is_empty() => return Ok(None),
-                None => {
-                    bound = format!(in alloc; "{folder}/")?;
-                    folder = String::from_str(alloc, above(folder.as_str()))?;
-                }
+                None => folder = String::from_str(alloc, above(folder.as_str()))?,
             }
         }
         Err(io::Error::from(ErrorKind::Other))
@@ -81,7 +90,9 @@ impl Walk {
         root: &str,
         folder: &str,
         bound: &str,
-    ) -> io::Result<Option<String>> {
+    ) -> io::Result<Option<String>>
+        ensures { IfOk result (λ found. IfSome found (λ path. path_cmp bound.now (string_bytes path) ≡ Less)) }
+    {
         self.listings.retain(|listing| listing.leads_to(folder));
         if !self.listings.iter().any(|listing| listing.is_of(folder)) {
             let listing = Listing::read(rt, alloc, root, folder)?;
