@@ -1,17 +1,20 @@
 -- What a folder's listing has, and which of its paths comes next.
-use Rattle.std.proofs.Common.{◌≡◌, ◌≢◌, ℕ, ◌<◌, ◌≤◌, Bool, true, false, ltb, ◌⊎◌, inl, inr, List, [], ◌∷◌, ◌++◌, length, get_or, map, Option, Some, None, option_map, refl, sym, ap, ◌∙◌, subst, arith, All, Contains, Bor, String, string_bytes, string_cmp, IsSorted}
-use Rattle.std.proofs.lemmas.Bool.{ltb-false, ltb-true}
+use Rattle.std.proofs.Common.{◌≡◌, ◌≢◌, ℕ, zero, suc, ◌<◌, ◌≤◌, Bool, true, false, cond, eqb, ltb, ◌+◌, ◌⊎◌, inl, inr, List, [], ◌∷◌, ◌++◌, length, get_or, take, drop, map, Option, Some, None, option_map, refl, sym, ap, ◌∙◌, subst, arith, All, Contains, Bor, String, string_bytes, string_cmp, IsSorted, IfSome, MatchOption, unwrap_or}
+use Rattle.std.proofs.lemmas.Bool.{eqb-false, ltb-false, ltb-true}
 use Rattle.std.proofs.lemmas.Cmp.{tied_itself, upto}
-use Rattle.std.proofs.lemmas.List.{append-nil, get_or-map, get_or_default, length-map}
-use Rattle.std.proofs.lemmas.List.Elements.{All-map}
+use Rattle.std.proofs.lemmas.List.{append-nil, get_or-map, get_or-drop, get_or_default, length-drop, length-map, take_at}
+use Rattle.std.proofs.lemmas.List.Elements.{All-from_get_or, All-map, All-push}
 use Rattle.std.proofs.lemmas.List.Sorted.{ranks_by, sorted_far}
 use Rattle.std.specs.List.Sorted.{IsPartitionPoint, IsPartitionedBy}
+use Rattle.std.specs.Fs.{dir_entry_name, dir_entry_path}
+use Rattle.std.specs.Path.{rfind_below, rsplit_once}
 use Rattle.std.specs.Slice.{IsItemAt}
+use Rattle.std.specs.declared.fs.dir.DirEntry.{DirEntry}
 use Rattle.std.specs.declared.cmp.Ordering.{Ordering}
 use Rattle.std.specs.declared.cmp.Ordering.TheVariants.{Less, Equal, Greater}
 use Rattle.std.specs.Ordering.{is_gt, is_le, is_lt, ordering_reverse}
 use Rattle.zot_outside.proofs.ObjectLemmas.{path_total}
-use Rattle.zot_outside.specs.Listing.{FindsAbove, IsLeastAbove, LiesIn, NoneAbove}
+use Rattle.zot_outside.specs.Listing.{FindsAbove, IsChild, IsLeastAbove, LiesIn, NoneAbove, child_path}
 use Rattle.zot_outside.specs.Objects.{path_cmp}
 
 -- where a folder's path doesn't begin with another's, the folder doesn't lie in that one
@@ -19,6 +22,48 @@ pub lies_out : (prefix above folder : List ℕ) → prefix ≡ above → ((rest 
 lies_out prefix above folder same apart (inl root) = apart folder (sym (ap (λ p. p ++ folder) (same ∙ root)))
 lies_out prefix above folder same apart (inr (inl is)) = apart [] (is ∙ sym same ∙ sym (append-nil prefix))
 lies_out prefix above folder same apart (inr (inr below)) = apart (47 ∷ below.0) (below.1 ∙ ap (λ p. p ++ 47 ∷ below.0) (sym same))
+
+-- no slash stands from a place on up to another
+abbrev Plain : List ℕ → ℕ → ℕ → Type 0
+Plain text from to = (i : ℕ) → from ≤ i → i < to → get_or text i 0 ≢ 47
+
+plain_more : (text : List ℕ) (from n : ℕ) → get_or text n 0 ≢ 47 → Plain text from n → Plain text from (suc n)
+plain_more text from n other plain i behind before =
+    elim (ltb i n) as (λ b. ltb i n ≡ b → get_or text i 0 ≢ 47) [
+      | true ↦ λ l. plain i behind (ltb-true i n l)
+      | false ↦ λ l. let late = ltb-false i n l in let same : i ≡ n = omega arith in subst (λ k. get_or text k 0 ≢ 47) (sym same) other
+    ] refl
+
+plain_step : (text : List ℕ) (n : ℕ) (r : Option ℕ) → get_or text n 0 ≢ 47 → MatchOption r (Plain text 0 n) (λ k. Plain text (k + 1) n) → MatchOption r (Plain text 0 (suc n)) (λ k. Plain text (k + 1) (suc n))
+plain_step text n None other h = plain_more text 0 n other h
+plain_step text n (Some k) other h = plain_more text (k + 1) n other h
+
+-- behind the last slash among the first n bytes stands none
+plain_below : (text : List ℕ) (n : ℕ) → MatchOption (rfind_below 47 text n) (Plain text 0 n) (λ k. Plain text (k + 1) n)
+plain_below text zero = λ i behind before. absurd (omega arith)
+plain_below text (suc n) =
+    elim (eqb (get_or text n 0) 47) as (λ b. eqb (get_or text n 0) 47 ≡ b → MatchOption (cond b (Some n) (rfind_below 47 text n)) (Plain text 0 (suc n)) (λ k. Plain text (k + 1) (suc n))) [
+      | true ↦ λ _ i behind before. absurd (omega arith)
+      | false ↦ λ other. plain_step text n (rfind_below 47 text n) (eqb-false (get_or text n 0) 47 other) (plain_below text n)
+    ] refl
+
+-- what follows the last slash has none
+last_plain : (text : List ℕ) (r : Option ℕ) → MatchOption r (Plain text 0 (length text)) (λ k. Plain text (k + 1) (length text))
+    → All (λ b. b ≢ 47) (unwrap_or (option_map (λ (parts : List ℕ × List ℕ). parts.1) (option_map (λ i. (take i text, drop (i + 1) text)) r)) text)
+last_plain text None plain = All-from_get_or (λ b. b ≢ 47) text 0 (λ i inside. plain i (omega arith) inside)
+last_plain text (Some k) plain = All-from_get_or (λ b. b ≢ 47) (drop (k + 1) text) 0 (λ i inside.
+    subst (λ b. b ≢ 47) (sym (get_or-drop (k + 1) text i 0)) (plain ((k + 1) + i) (omega arith) (omega (arith, length-drop (k + 1) text))))
+
+pub name_without_slash : {R A F D : Type 0} (entry : DirEntry R A F D) → All (λ b. b ≢ 47) (dir_entry_name entry)
+unfolding rsplit_once
+name_without_slash entry = let path = dir_entry_path entry in last_plain path (rfind_below 47 path (length path)) (plain_below path (length path))
+
+-- a path that was made of a name in a folder, with a slash behind it or none
+pub child_found : {Z : Type 0} (folder name path : List ℕ) (found : Option (String Z)) → All (λ b. b ≢ 47) name → path ≡ child_path folder name
+    → IfSome found (λ given. (string_bytes given ≡ path) ⊎ (string_bytes given ≡ path ++ 47 ∷ [])) → IfSome found (λ given. IsChild folder (string_bytes given))
+child_found folder name path None plain made given = tt
+child_found folder name path (Some one) plain made (inl is) = (name, plain, inl (is ∙ made))
+child_found folder name path (Some one) plain made (inr is) = (name, plain, inr (is ∙ ap (λ p. p ++ 47 ∷ []) made))
 
 module _ {Z : Type 0} (bound : List ℕ) where
   -- whether a path isn't greater than the bound
@@ -113,3 +158,12 @@ behind_bound path bound other h less =
       | Equal ↦ λ tied. path_total.congr path bound other tied ∙ less
       | Greater ↦ λ greater. absurd (h greater)
     ] refl
+
+-- a fact of each element, where one was pushed or there was no memory for it
+pub All-pushed : {X : Type 0} (P : X → Type 0) (b : Bool) (was now : List X) (x : X) → now ≡ cond b (was ++ x ∷ []) was → All P was → P x → All P now
+All-pushed P true was now x is all one = subst (λ xs. All P xs) (sym is) (All-push P was x all one)
+All-pushed P false was now x is all one = subst (λ xs. All P xs) (sym is) all
+
+-- a whole list that was written over in place
+pub written_over : {X : Type 0} (written was : List X) (n : ℕ) → length written ≡ n → take n (written ++ drop (length written) was) ≡ written
+written_over written was n whole = take_at written (drop (length written) was) n whole

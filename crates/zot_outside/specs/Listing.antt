@@ -12,6 +12,14 @@ child_path (b ∷ bs) name = (b ∷ bs) ++ 47 ∷ name
 abbrev pub IsEntry : List ℕ → List ℕ → List ℕ → Type 0
 IsEntry folder name path = (path ≡ child_path folder name) ⊎ (path ≡ child_path folder name ++ 47 ∷ [])
 
+-- a path is that of a folder's file, or of a folder in it with a slash behind: its name has no slash
+abbrev pub IsChild : List ℕ → List ℕ → Type 0
+IsChild folder path = (name : List ℕ) × All (λ b. b ≢ 47) name × IsEntry folder name path
+
+-- a path is that of a file: it doesn't end with a slash
+abbrev pub IsFilePath : List ℕ → Type 0
+IsFilePath path = (front : List ℕ) → path ≢ front ++ 47 ∷ []
+
 -- a folder is another one or lies below it
 abbrev pub LiesIn : List ℕ → List ℕ → Type 0
 LiesIn above folder = (above ≡ []) ⊎ (folder ≡ above) ⊎ ((rest : List ℕ) × (folder ≡ above ++ 47 ∷ rest))

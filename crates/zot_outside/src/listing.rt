@@ -1,14 +1,14 @@
 //! What lies in one folder.
-ghost use Rattle.std.specs.Prelude.{◌≡◌, ◌↔◌, IfOk, IfSome, IsOkAnd, IsTrue, IsSorted, map, option_map, string_bytes};
+ghost use Rattle.std.specs.Prelude.{◌≡◌, ◌↔◌, ◌⊎◌, [], ◌∷◌, ◌++◌, All, IfOk, IfSome, IsOkAnd, IsSomeAnd, IsTrue, IsSorted, MatchOption, map, option_map, string_bytes};
 ghost use Rattle.std.proofs.Props.{props};
-ghost use Rattle.std.specs.Fs.{dir_entry_name};
+ghost use Rattle.std.specs.Fs.{IsDir, IsFile, dir_entry_name};
 ghost use Rattle.std.specs.String.{string_cmp};
-ghost use Rattle.zot_outside.specs.Listing.{FindsAbove, IsEntry, LiesIn, child_path};
+ghost use Rattle.zot_outside.specs.Listing.{FindsAbove, IsChild, IsEntry, LiesIn, child_path};
 
 use crate::files::is_absent;
 use crate::paths::names_object;
 use std::alloc::{AllocError, Global};
-use std::fs::{DirEntry, Files, ReadDir};
+use std::fs::{DirEntry, FileType, Files, ReadDir};
 use std::io::ErrorKind;
 use std::{fs, io};
 
@@ -29,6 +29,7 @@ impl Listing {
         folder: &str,
     ) -> io::Result<Listing>
         ensures folder { IfOk result (λ listing. string_bytes listing.folder ≡ folder.now) }
+        ensures paths { IfOk result (λ listing. All (λ path. IsChild folder.now (string_bytes path)) listing.paths.items) }
     {
         let mut paths = Vec::new(alloc);
         if let Some(entries) = open_folder(rt, alloc, root, folder)? {
@@ -97,7 +98,8 @@ fn path_of<R: Files + Drop>(
     folder: &str,
     entry: io::Result<DirEntry<R, Global>>,
 ) -> io::Result<Option<String>>
-    ensures { IfOk result (λ found. IfSome found (λ path. IsOkAnd entry (λ one. IsEntry folder.now (dir_entry_name one) (string_bytes path)))) }
+    ensures child { IfOk result (λ found. IfSome found (λ path. IsChild folder.now (string_bytes path))) }
+    ensures entry { IfOk result (λ found. IfSome found (λ path. IsOkAnd entry (λ one. IsEntry folder.now (dir_entry_name one) (string_bytes path)))) }
 {
     let entry = match entry {
         Ok(entry) => entry,
@@ -109,11 +111,25 @@ fn path_of<R: Files + Drop>(
     }
     let path = child(alloc, folder, entry.file_name())?;
     match entry.file_type() {
-        Ok(kind) if kind.is_dir() => Ok(Some(format!(in alloc; "{path}/")?)),
-        Ok(kind) if kind.is_file() => Ok(Some(path)),
-        Ok(_) => Ok(None),
+        Ok(kind) => Ok(marked(alloc, path, kind)?),
         Err(error) if is_absent(error.kind()) => Ok(None),
         Err(error) => Err(error),
+    }
+}
+
+// A path as a listing has it: with a slash behind it for a folder, and none for what is neither a file nor a folder.
+fn marked(alloc: Global, path: String, kind: FileType) -> Result<Option<String>, AllocError>
+    ensures folder { IsDir kind → IfOk result (λ found. IsSomeAnd found (λ given. string_bytes given ≡ string_bytes path ++ 47 ∷ [])) }
+    ensures file { IsFile kind → IfOk result (λ found. IsSomeAnd found (λ given. string_bytes given ≡ string_bytes path)) }
+    ensures given { IfOk result (λ found. IfSome found (λ given. (string_bytes given ≡ string_bytes path) ⊎ (string_bytes given ≡ string_bytes path ++ 47 ∷ []))) }
+    ensures other { IfOk result (λ found. MatchOption found ((IsDir kind → ⊥) × (IsFile kind → ⊥)) (λ _. IsDir kind ⊎ IsFile kind)) }
+{
+    if kind.is_dir() {
+        Ok(Some(format!(in alloc; "{path}/")?))
+    } else if kind.is_file() {
+        Ok(Some(path))
+    } else {
+        Ok(None)
     }
 }
 

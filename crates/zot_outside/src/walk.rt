@@ -1,6 +1,7 @@
 //! The files below a folder, one after another by their paths.
 ghost use Rattle.std.specs.Prelude.{◌≡◌, IfOk, IfSome, [], string_bytes};
 ghost use Rattle.std.specs.declared.cmp.Ordering.TheVariants.{Less};
+ghost use Rattle.zot_outside.specs.Listing.{IsFilePath};
 ghost use Rattle.zot_outside.specs.Objects.{path_cmp};
 
 use crate::listing::Listing;
@@ -42,7 +43,8 @@ impl Walk {
         root: &str,
         after: &str,
     ) -> io::Result<Option<String>>
-        ensures { IfOk result (λ found. IfSome found (λ path. path_cmp after.now (string_bytes path) ≡ Less)) }
+        ensures above { IfOk result (λ found. IfSome found (λ path. path_cmp after.now (string_bytes path) ≡ Less)) }
+        ensures file { IfOk result (λ found. IfSome found (λ path. IsFilePath (string_bytes path))) }
     {
         if self.last.as_str() != after {
             self.forget();
@@ -62,7 +64,8 @@ impl Walk {
         root: &str,
         after: &str,
     ) -> io::Result<Option<String>>
-        ensures { IfOk result (λ found. IfSome found (λ path. path_cmp after.now (string_bytes path) ≡ Less)) }
+        ensures above { IfOk result (λ found. IfSome found (λ path. path_cmp after.now (string_bytes path) ≡ Less)) }
+        ensures file { IfOk result (λ found. IfSome found (λ path. IsFilePath (string_bytes path))) }
     {
         let mut folder = String::from_str(alloc, above(after))?;
         let mut bound = String::from_str(alloc, after)?;

@@ -17,7 +17,6 @@ pub struct WriterSink<W> {
 impl<W> WriterSink<W> {
     /// The sink over a writer. Takes no memory.
     pub fn new(writer: W) -> Self
-        ensures lost { OnErr result (IfOk written (λ n. n ≡ 0)) }
         ensures writer { result.writer ≡ writer }
         ensures faults { result.faults ≡ 0 }
     {
