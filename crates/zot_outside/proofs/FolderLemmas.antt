@@ -1,5 +1,5 @@
 -- What a folder's listing has, and which of its paths comes next.
-use Rattle.std.proofs.Common.{◌≡◌, ◌≢◌, ℕ, zero, suc, ◌<◌, ◌≤◌, Bool, true, false, cond, eqb, ltb, ◌+◌, ◌⊎◌, inl, inr, List, [], ◌∷◌, ◌++◌, length, get_or, take, drop, map, Option, Some, None, option_map, refl, sym, ap, ◌∙◌, subst, arith, All, Contains, Bor, String, string_bytes, string_cmp, IsSorted, IfSome, MatchOption, unwrap_or}
+use Rattle.std.proofs.Common.{◌≡◌, ◌≢◌, ℕ, zero, suc, ◌<◌, ◌≤◌, Bool, true, false, cond, eqb, ltb, ◌+◌, ◌⊎◌, inl, inr, List, [], ◌∷◌, ◌++◌, length, get_or, take, drop, map, Option, Some, None, option_map, refl, sym, ap, ◌∙◌, subst, arith, All, Bor, String, string_bytes, string_cmp, IsSorted, IfSome, MatchOption, unwrap_or}
 use Rattle.std.proofs.lemmas.Bool.{eqb-false, ltb-false, ltb-true}
 use Rattle.std.proofs.lemmas.Cmp.{tied_itself, upto}
 use Rattle.std.proofs.lemmas.List.{append-nil, get_or-map, get_or-drop, get_or_default, length-drop, length-map, take_at}
@@ -14,7 +14,7 @@ use Rattle.std.specs.declared.cmp.Ordering.{Ordering}
 use Rattle.std.specs.declared.cmp.Ordering.TheVariants.{Less, Equal, Greater}
 use Rattle.std.specs.Ordering.{is_gt, is_le, is_lt, ordering_reverse}
 use Rattle.zot_outside.proofs.ObjectLemmas.{path_total}
-use Rattle.zot_outside.specs.Listing.{FindsAbove, IsChild, IsLeastAbove, LiesIn, NoneAbove, child_path}
+use Rattle.zot_outside.specs.Listing.{FindsAbove, IsChild, LiesIn, child_path}
 use Rattle.zot_outside.specs.Objects.{path_cmp}
 
 -- where a folder's path doesn't begin with another's, the folder doesn't lie in that one
@@ -137,7 +137,7 @@ finds_above paths bound i (Some x) up point item =
       listed = (i, subst (λ n. i < n) (sym (length-map paths string_bytes)) inside, get_or-map string_bytes paths i x.now path inside ∙ ap string_bytes (sym is));
       above = path_total.antisymm bound path ∙ gt_above _ (ap (within bound) is ∙ point.1 i x.now (omega arith) inside);
       least = All-map (λ other. path_cmp bound other ≡ Less → path_cmp other path ≢ Less) string_bytes paths (λ k d listed greater.
-        least_above paths bound i k x.now d up point inside is listed greater);
+          least_above paths bound i k x.now d up point inside is listed greater);
     }
 
 equal_not_greater : Equal ≡ Greater → ⊥
