@@ -1,7 +1,9 @@
 //! The files below a folder, one after another by their paths.
-ghost use Rattle.std.specs.Prelude.{◌≡◌, IfOk, IfSome, [], string_bytes};
+ghost use Rattle.std.specs.Prelude.{◌≡◌, ◌<◌, [], IfOk, IfSome, map, option_map, string_bytes, vec_len};
+ghost use Rattle.std.specs.List.{Any, HoldsAt};
 ghost use Rattle.std.specs.declared.cmp.Ordering.TheVariants.{Less};
-ghost use Rattle.zot_outside.specs.Listing.{IsFilePath};
+ghost use Rattle.zot_outside.specs.Listing.{FindsAbove, IsFilePath};
+ghost use Rattle.zot_outside.specs.declared.listing.Listing.{Listing};
 ghost use Rattle.zot_outside.specs.Objects.{path_cmp};
 
 use crate::listing::Listing;
@@ -85,7 +87,7 @@ impl Walk {
         Err(io::Error::from(ErrorKind::Other))
     }
 
-    // The least path in a folder that is greater than a bound. The listings of folders that don't lie above it are let go.
+    // The least path in a folder that is greater than a bound, by the folder's listing.
     fn least<R: Files + AllocGlobal + Clone + Drop>(
         &mut self,
         rt: &R,
@@ -94,22 +96,39 @@ impl Walk {
         folder: &str,
         bound: &str,
     ) -> io::Result<Option<String>>
-        ensures { IfOk result (λ found. IfSome found (λ path. path_cmp bound.now (string_bytes path) ≡ Less)) }
+        ensures above { IfOk result (λ found. IfSome found (λ path. path_cmp bound.now (string_bytes path) ≡ Less)) }
+        ensures least { IfOk result (λ found. Any (λ (listing : Listing). (string_bytes listing.folder ≡ folder.now) × FindsAbove (map string_bytes listing.paths.items) bound.now (option_map string_bytes found)) self.new.listings.items) }
     {
-        self.listings.retain(|listing| listing.leads_to(folder));
-        if !self.listings.iter().any(|listing| listing.is_of(folder)) {
-            let listing = Listing::read(rt, alloc, root, folder)?;
-            self.listings.push(listing).map_err(AllocError::from)?;
-        }
-        let found = self
-            .listings
-            .iter()
-            .find(|listing| listing.is_of(folder))
-            .and_then(|listing| listing.above(bound));
-        match found {
+        let at = self.listed(rt, alloc, root, folder)?;
+        match self.listings[at].above(bound) {
             Some(path) => Ok(Some(String::from_str(alloc, path.as_str())?)),
             None => Ok(None),
         }
+    }
+
+    // Where the listing of a folder stands, which is read where none is held. The listings of folders that don't lie above it are let go.
+    fn listed<R: Files + AllocGlobal + Clone + Drop>(
+        &mut self,
+        rt: &R,
+        alloc: Global,
+        root: &str,
+        folder: &str,
+    ) -> io::Result<usize>
+        ensures within { IfOk result (λ at. at < vec_len self.new.listings) }
+        ensures folder { IfOk result (λ at. HoldsAt (λ (listing : Listing). string_bytes listing.folder ≡ folder.now) self.new.listings.items at) }
+    {
+        self.listings.retain(|listing| listing.leads_to(folder));
+        if let Some(at) = self
+            .listings
+            .iter()
+            .position(|listing| listing.is_of(folder))
+        {
+            return Ok(at);
+        }
+        let at = self.listings.len();
+        let listing = Listing::read(rt, alloc, root, folder)?;
+        self.listings.push(listing).map_err(AllocError::from)?;
+        Ok(at)
     }
 }
 
