@@ -1,4 +1,5 @@
 pub mod ObjectLemmas
+pub mod FolderLemmas
 pub mod ListingLemmas
 mod PathLemmas
 pub mod StreamLemmas

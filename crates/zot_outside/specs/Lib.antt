@@ -1,5 +1,6 @@
 pub mod Accepted
 pub mod Faults
+pub mod Listing
 pub mod Objects
 pub mod Paths
 pub mod Place

@@ -1,5 +1,7 @@
 //! The files of a folder's objects.
-ghost use Rattle.std.specs.Prelude.{◌≤◌, IfOk, IfSome, length};
+ghost use Rattle.std.specs.Prelude.{◌≡◌, ◌<◌, ◌≤◌, ◌↔◌, ◌⊎◌, IfOk, IfSome, IsTrue, length, take};
+ghost use Rattle.std.specs.declared.io.ErrorKind.TheVariants.{InvalidFilename, NotADirectory, NotFound};
+ghost use Rattle.zot_outside.specs.Streams.{IsOver, Takes};
 
 use crate::place::Place;
 use std::fs::{Files, OpenFile, OpenOptions};
@@ -17,7 +19,9 @@ pub fn file_size(rt: &impl Files, file: &str) -> io::Result<Option<u64>> {
 }
 
 /// Whether a look-up failed for there being nothing: no such name, a file where a folder should be, or a name that no file can have.
-pub fn is_absent(kind: ErrorKind) -> bool {
+pub fn is_absent(kind: ErrorKind) -> bool
+    ensures { IsTrue result ↔ ((kind ≡ NotFound) ⊎ (kind ≡ NotADirectory) ⊎ (kind ≡ InvalidFilename)) }
+{
     matches!(
         kind,
         ErrorKind::NotFound | ErrorKind::NotADirectory | ErrorKind::InvalidFilename
@@ -39,9 +43,12 @@ pub fn read_file<R: Files>(rt: &R, file: &str, at: u64, buf: &mut [u8]) -> io::R
     }
 }
 
-// Fills a buffer as far as a reader reaches, and answers how many bytes these are.
+// Fills a buffer as far as a reader reaches, and answers how many bytes these are: fewer than the buffer has only where nothing is left.
 fn fill<S: Read>(source: &mut S, buf: &mut [u8]) -> io::Result<usize>
-    ensures { IfOk result (λ n. n ≤ length buf.new) }
+    ensures within { IfOk result (λ n. n ≤ length buf.new) }
+    ensures room { length buf.new ≡ length buf.old }
+    ensures taken { IfOk result (λ n. Takes (S.remaining source.old) (take n buf.new) (S.remaining source.new)) }
+    ensures over { IfOk result (λ n. n < length buf.new → IsOver (S.remaining source.new)) }
 {
     let mut n = 0;
     while n < buf.len() {

@@ -1,9 +1,11 @@
 //! A folder as a store.
-ghost use Rattle.std.specs.Prelude.{◌≡◌, ◌≤◌, ◌↔◌, ℕ, IfOk, MatchOption, None, string_bytes};
+ghost use Rattle.std.specs.Prelude.{◌≡◌, ◌≤◌, ◌↔◌, ℕ, IfOk, IfSome, MatchOption, None, string_bytes};
 ghost use Rattle.std.specs.IoError.{error_kind};
+ghost use Rattle.std.specs.declared.cmp.Ordering.TheVariants.{Less};
 ghost use Rattle.std.specs.declared.io.ErrorKind.TheVariants as kinds;
 ghost use Rattle.zot_outside.specs.declared.store_error.StoreError.TheVariants as errors;
 ghost use Rattle.zot_outside.specs.Faults.{HasStoreCause, OnMissing, Rose};
+ghost use Rattle.zot_outside.specs.Objects.{path_cmp};
 
 use crate::failed::Failed;
 use crate::files::{copy_file, extend_file, file_size, read_file, remove_file, write_file};
@@ -165,7 +167,11 @@ impl<R: Files + AllocGlobal + Clone + Drop> Store for FolderStore<R> {
         self.found(removed)
     }
 
-    fn next(&mut self, alloc: Global, after: &str) -> Result<Option<String>, StoreError> {
+    fn next(&mut self, alloc: Global, after: &str) -> Result<Option<String>, StoreError>
+        ensures cause { HasStoreCause self.old.faults self.new.faults result }
+        ensures missing { OnMissing result ⊥ }
+        ensures above { IfOk result (λ found. IfSome found (λ path. path_cmp after.now (string_bytes path) ≡ Less)) }
+    {
         let next = self.walk.next(&self.rt, alloc, self.root.as_str(), after);
         self.done(next)
     }

@@ -1,10 +1,14 @@
 //! What lies in one folder.
-ghost use Rattle.std.specs.Prelude.{◌≡◌, ◌↔◌, IsTrue, string_bytes};
+ghost use Rattle.std.specs.Prelude.{◌≡◌, ◌↔◌, ◌⊎◌, [], ◌∷◌, ◌++◌, All, IfOk, IfSome, IsOkAnd, IsSomeAnd, IsTrue, IsSorted, MatchOption, map, option_map, string_bytes};
+ghost use Rattle.std.proofs.Props.{props};
+ghost use Rattle.std.specs.Fs.{IsDir, IsFile, dir_entry_name};
+ghost use Rattle.std.specs.String.{string_cmp};
+ghost use Rattle.zot_outside.specs.Listing.{FindsAbove, IsChild, IsEntry, LiesIn, child_path};
 
 use crate::files::is_absent;
 use crate::paths::names_object;
 use std::alloc::{AllocError, Global};
-use std::fs::{DirEntry, Files, ReadDir};
+use std::fs::{DirEntry, FileType, Files, ReadDir};
 use std::io::ErrorKind;
 use std::{fs, io};
 
@@ -13,6 +17,7 @@ use std::{fs, io};
 pub struct Listing {
     folder: String,
     paths: Vec<String>,
+    ghost ordered: { IsSorted string_cmp paths.items } by { Prim.hlevel props },
 }
 
 impl Listing {
@@ -22,7 +27,10 @@ impl Listing {
         alloc: Global,
         root: &str,
         folder: &str,
-    ) -> io::Result<Listing> {
+    ) -> io::Result<Listing>
+        ensures folder { IfOk result (λ listing. string_bytes listing.folder ≡ folder.now) }
+        ensures paths { IfOk result (λ listing. All (λ path. IsChild folder.now (string_bytes path)) listing.paths.items) }
+    {
         let mut paths = Vec::new(alloc);
         if let Some(entries) = open_folder(rt, alloc, root, folder)? {
             for entry in entries {
@@ -44,7 +52,9 @@ impl Listing {
     }
 
     /// Whether its folder is this one or lies above it.
-    pub fn leads_to(&self, folder: &str) -> bool {
+    pub fn leads_to(&self, folder: &str) -> bool
+        ensures { IsTrue result ↔ LiesIn (string_bytes self.now.folder) folder.now }
+    {
         match folder.strip_prefix(self.folder.as_str()) {
             Some(rest) => self.folder.is_empty() || rest.is_empty() || rest.starts_with('/'),
             None => false,
@@ -52,7 +62,9 @@ impl Listing {
     }
 
     /// The least of the paths that is greater than another.
-    pub fn above(&self, bound: &str) -> Option<&String> {
+    pub fn above(&self, bound: &str) -> Option<&String>
+        ensures { FindsAbove (map string_bytes self.now.paths.items) bound.now (option_map (λ path. string_bytes path.now) result) }
+    {
         let paths = self.paths.as_slice();
         paths.get(paths.partition_point(|path| path.as_str() <= bound))
     }
@@ -85,7 +97,10 @@ fn path_of<R: Files + Drop>(
     alloc: Global,
     folder: &str,
     entry: io::Result<DirEntry<R, Global>>,
-) -> io::Result<Option<String>> {
+) -> io::Result<Option<String>>
+    ensures child { IfOk result (λ found. IfSome found (λ path. IsChild folder.now (string_bytes path))) }
+    ensures entry { IfOk result (λ found. IfSome found (λ path. IsOkAnd entry (λ one. IsEntry folder.now (dir_entry_name one) (string_bytes path)))) }
+{
     let entry = match entry {
         Ok(entry) => entry,
         Err(error) if error.kind() == ErrorKind::InvalidFilename => return Ok(None),
@@ -96,16 +111,32 @@ fn path_of<R: Files + Drop>(
     }
     let path = child(alloc, folder, entry.file_name())?;
     match entry.file_type() {
-        Ok(kind) if kind.is_dir() => Ok(Some(format!(in alloc; "{path}/")?)),
-        Ok(kind) if kind.is_file() => Ok(Some(path)),
-        Ok(_) => Ok(None),
+        Ok(kind) => Ok(marked(alloc, path, kind)?),
         Err(error) if is_absent(error.kind()) => Ok(None),
         Err(error) => Err(error),
     }
 }
 
+// A path as a listing has it: with a slash behind it for a folder, and none for what is neither a file nor a folder.
+fn marked(alloc: Global, path: String, kind: FileType) -> Result<Option<String>, AllocError>
+    ensures folder { IsDir kind → IfOk result (λ found. IsSomeAnd found (λ given. string_bytes given ≡ string_bytes path ++ 47 ∷ [])) }
+    ensures file { IsFile kind → IfOk result (λ found. IsSomeAnd found (λ given. string_bytes given ≡ string_bytes path)) }
+    ensures given { IfOk result (λ found. IfSome found (λ given. (string_bytes given ≡ string_bytes path) ⊎ (string_bytes given ≡ string_bytes path ++ 47 ∷ []))) }
+    ensures other { IfOk result (λ found. MatchOption found ((IsDir kind → ⊥) × (IsFile kind → ⊥)) (λ _. IsDir kind ⊎ IsFile kind)) }
+{
+    if kind.is_dir() {
+        Ok(Some(format!(in alloc; "{path}/")?))
+    } else if kind.is_file() {
+        Ok(Some(path))
+    } else {
+        Ok(None)
+    }
+}
+
 // The path of a name in a folder.
-fn child(alloc: Global, folder: &str, name: &str) -> Result<String, AllocError> {
+fn child(alloc: Global, folder: &str, name: &str) -> Result<String, AllocError>
+    ensures { IfOk result (λ path. string_bytes path ≡ child_path folder.now name.now) }
+{
     if folder.is_empty() {
         String::from_str(alloc, name)
     } else {

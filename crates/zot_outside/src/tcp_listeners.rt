@@ -1,6 +1,7 @@
 //! The members' sockets.
-ghost use Rattle.std.specs.Prelude.{◌≡◌, ◌<◌, ◌^◌, IfOk, IfSome, length, vec_len, ◌≤◌};
+ghost use Rattle.std.specs.Prelude.{◌≡◌, ◌<◌, ◌^◌, ◌+◌, IfOk, IfSome, IsErr, MatchOption, OnErr, length, vec_len, ◌≤◌};
 ghost use Rattle.zot_outside.specs.Faults.{HasCause, Rose};
+ghost use Rattle.zot_outside.specs.declared.accepted.Accepted.TheVariants.{Quiet};
 
 use crate::accepted::Accepted;
 use crate::bind_error::BindError;
@@ -61,6 +62,7 @@ impl<R> TcpListeners<R> {
         ensures cause { HasCause self.old.faults self.new.faults result }
         ensures member { IfOk result (λ accepted. IsStream accepted member) }
         ensures kept { vec_len self.new.listeners ≡ vec_len self.old.listeners }
+        ensures turn { self.new.first ≡ self.old.first }
     {
         match stream.try_clone() {
             Ok(reader) => Ok(Accepted::Stream(
@@ -72,11 +74,33 @@ impl<R> TcpListeners<R> {
         }
     }
 
+    // What a look answers: a connection that it found, `Quiet` where it found none, or a fault where it failed. The next look begins behind the member whose connection it was.
+    fn found(
+        &mut self,
+        looked: io::Result<Option<(u32, TcpStream)>>,
+    ) -> Result<Accepted<ReaderSource<TcpStream>, WriterSink<TcpStream>>, Failed>
+        ensures cause { HasCause self.old.faults self.new.faults result }
+        ensures answer { IfOk looked (λ found. MatchOption found (result ≡ Ok Quiet) (λ one. IfOk result (λ accepted. IsStream accepted one.0))) }
+        ensures lost { OnErr looked (IsErr result) }
+        ensures turn { IfOk looked (λ found. IfSome found (λ one. self.new.first ≡ one.0 + 1)) }
+        ensures kept { vec_len self.new.listeners ≡ vec_len self.old.listeners }
+    {
+        match looked {
+            Ok(Some((member, stream))) => {
+                self.first = member as usize + 1;
+                self.open(member, stream)
+            }
+            Ok(None) => Ok(Accepted::Quiet),
+            Err(_) => Err(self.fault()),
+        }
+    }
+
     // Counts a fault.
     fn fault(&mut self) -> Failed
         ensures later { self.old.faults ≤ self.new.faults }
         ensures rose { Rose self.old.faults self.new.faults }
         ensures kept { vec_len self.new.listeners ≡ vec_len self.old.listeners }
+        ensures turn { self.new.first ≡ self.old.first }
     {
         self.faults = self.faults.saturating_add(1);
         Failed
@@ -111,17 +135,11 @@ impl<R: rt::Clock> Listener for TcpListeners<R> {
     ghost faults = { λ s. s.faults };
 
     fn accept(&mut self) -> Result<Accepted<Self::C, Self::K>, Failed> {
-        match look(self.listeners.as_slice(), self.first) {
-            Ok(Some((member, stream))) => {
-                self.first = member as usize + 1;
-                self.open(member, stream)
-            }
-            Ok(None) => {
-                thread::sleep(&self.rt, Duration::from_millis(REST));
-                Ok(Accepted::Quiet)
-            }
-            Err(_) => Err(self.fault()),
+        let looked = look(self.listeners.as_slice(), self.first);
+        if let Ok(None) = &looked {
+            thread::sleep(&self.rt, Duration::from_millis(REST));
         }
+        self.found(looked)
     }
 }
 

@@ -1,4 +1,11 @@
 //! The files below a folder, one after another by their paths.
+ghost use Rattle.std.specs.Prelude.{◌≡◌, ◌<◌, [], IfOk, IfSome, map, option_map, string_bytes, vec_len};
+ghost use Rattle.std.specs.List.{Any, HoldsAt};
+ghost use Rattle.std.specs.declared.cmp.Ordering.TheVariants.{Less};
+ghost use Rattle.zot_outside.specs.Listing.{FindsAbove, IsFilePath};
+ghost use Rattle.zot_outside.specs.declared.listing.Listing.{Listing};
+ghost use Rattle.zot_outside.specs.Objects.{path_cmp};
+
 use crate::listing::Listing;
 use std::alloc::{AllocError, Global};
 use std::fs::Files;
@@ -14,7 +21,9 @@ pub struct Walk {
 
 impl Walk {
     /// A walk that hasn't begun. Takes no memory.
-    pub fn new(alloc: Global) -> Self {
+    pub fn new(alloc: Global) -> Self
+        ensures { result.listings.items ≡ [] }
+    {
         Walk {
             last: String::new(alloc),
             listings: Vec::new(alloc),
@@ -22,7 +31,9 @@ impl Walk {
     }
 
     /// Forgets what was read.
-    pub fn forget(&mut self) {
+    pub fn forget(&mut self)
+        ensures { self.new.listings.items ≡ [] }
+    {
         self.listings.clear();
     }
 
@@ -33,7 +44,10 @@ impl Walk {
         alloc: Global,
         root: &str,
         after: &str,
-    ) -> io::Result<Option<String>> {
+    ) -> io::Result<Option<String>>
+        ensures above { IfOk result (λ found. IfSome found (λ path. path_cmp after.now (string_bytes path) ≡ Less)) }
+        ensures file { IfOk result (λ found. IfSome found (λ path. IsFilePath (string_bytes path))) }
+    {
         if self.last.as_str() != after {
             self.forget();
         }
@@ -51,7 +65,10 @@ impl Walk {
         alloc: Global,
         root: &str,
         after: &str,
-    ) -> io::Result<Option<String>> {
+    ) -> io::Result<Option<String>>
+        ensures above { IfOk result (λ found. IfSome found (λ path. path_cmp after.now (string_bytes path) ≡ Less)) }
+        ensures file { IfOk result (λ found. IfSome found (λ path. IsFilePath (string_bytes path))) }
+    {
         let mut folder = String::from_str(alloc, above(after))?;
         let mut bound = String::from_str(alloc, after)?;
         for _ in 0..u64::MAX {
@@ -64,16 +81,13 @@ impl Walk {
                     None => return Ok(Some(path)),
                 },
                 None if folder.is_empty() => return Ok(None),
-                None => {
-                    bound = format!(in alloc; "{folder}/")?;
-                    folder = String::from_str(alloc, above(folder.as_str()))?;
-                }
+                None => folder = String::from_str(alloc, above(folder.as_str()))?,
             }
         }
         Err(io::Error::from(ErrorKind::Other))
     }
 
-    // The least path in a folder that is greater than a bound. The listings of folders that don't lie above it are let go.
+    // The least path in a folder that is greater than a bound, by the folder's listing.
     fn least<R: Files + AllocGlobal + Clone + Drop>(
         &mut self,
         rt: &R,
@@ -81,21 +95,40 @@ impl Walk {
         root: &str,
         folder: &str,
         bound: &str,
-    ) -> io::Result<Option<String>> {
-        self.listings.retain(|listing| listing.leads_to(folder));
-        if !self.listings.iter().any(|listing| listing.is_of(folder)) {
-            let listing = Listing::read(rt, alloc, root, folder)?;
-            self.listings.push(listing).map_err(AllocError::from)?;
-        }
-        let found = self
-            .listings
-            .iter()
-            .find(|listing| listing.is_of(folder))
-            .and_then(|listing| listing.above(bound));
-        match found {
+    ) -> io::Result<Option<String>>
+        ensures above { IfOk result (λ found. IfSome found (λ path. path_cmp bound.now (string_bytes path) ≡ Less)) }
+        ensures least { IfOk result (λ found. Any (λ (listing : Listing). (string_bytes listing.folder ≡ folder.now) × FindsAbove (map string_bytes listing.paths.items) bound.now (option_map string_bytes found)) self.new.listings.items) }
+    {
+        let at = self.listed(rt, alloc, root, folder)?;
+        match self.listings[at].above(bound) {
             Some(path) => Ok(Some(String::from_str(alloc, path.as_str())?)),
             None => Ok(None),
         }
+    }
+
+    // Where the listing of a folder stands, which is read where none is held. The listings of folders that don't lie above it are let go.
+    fn listed<R: Files + AllocGlobal + Clone + Drop>(
+        &mut self,
+        rt: &R,
+        alloc: Global,
+        root: &str,
+        folder: &str,
+    ) -> io::Result<usize>
+        ensures within { IfOk result (λ at. at < vec_len self.new.listings) }
+        ensures folder { IfOk result (λ at. HoldsAt (λ (listing : Listing). string_bytes listing.folder ≡ folder.now) self.new.listings.items at) }
+    {
+        self.listings.retain(|listing| listing.leads_to(folder));
+        if let Some(at) = self
+            .listings
+            .iter()
+            .position(|listing| listing.is_of(folder))
+        {
+            return Ok(at);
+        }
+        let at = self.listings.len();
+        let listing = Listing::read(rt, alloc, root, folder)?;
+        self.listings.push(listing).map_err(AllocError::from)?;
+        Ok(at)
     }
 }
 
