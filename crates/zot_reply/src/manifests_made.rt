@@ -1,6 +1,7 @@
 //! Replies of manifests that were stored, which bytes may be.
-ghost use Rattle.std.specs.Prelude.{◌≡◌, ◌++◌, false, codes, IfOk};
-ghost use Rattle.zot_spell.specs.Fields.{status_line, digest_field, location_field, manifest_place};
+ghost use Rattle.std.specs.Prelude.{◌≡◌, ◌++◌, List, ℕ, Some, false, codes, IfOk};
+ghost use Rattle.zot_digest.specs.Digest.{IsDigest};
+ghost use Rattle.zot_spell.specs.Fields.{status_line, digest_field, location_field, manifest_place, subject_field};
 ghost use Rattle.zot_reply.specs.Reading.{Finds, IsManifestMade, IsWithSubject, IsWithoutSubject};
 
 use crate::finding::confirm;
@@ -34,8 +35,7 @@ fn read_without_subject(
 ) -> Result<Option<Reply>, AllocError>
     ensures { IfOk result (Finds IsWithoutSubject name.now false close bytes.now) }
 {
-    let front = manifest_made_front(alloc, name)?;
-    let Some(digest) = digest_behind(bytes, front.as_slice()) else {
+    let Some(digest) = find_made(alloc, name, bytes)? else {
         return Ok(None);
     };
     let reply = Reply::ManifestMade {
@@ -54,12 +54,10 @@ fn read_with_subject(
 ) -> Result<Option<Reply>, AllocError>
     ensures { IfOk result (Finds IsWithSubject name.now false close bytes.now) }
 {
-    let front = manifest_made_front(alloc, name)?;
-    let Some(digest) = digest_behind(bytes, front.as_slice()) else {
+    let Some(digest) = find_made(alloc, name, bytes)? else {
         return Ok(None);
     };
-    let front = subject_front(alloc, name, &digest)?;
-    let Some(subject) = digest_behind(bytes, front.as_slice()) else {
+    let Some(subject) = find_subject(alloc, name, &digest, bytes)? else {
         return Ok(None);
     };
     let reply = Reply::ManifestMade {
@@ -67,6 +65,30 @@ fn read_with_subject(
         subject: Some(subject),
     };
     confirm(alloc, name, reply, false, close, bytes)
+}
+
+// The digest in the place of a manifest that was stored.
+fn find_made(alloc: Global, name: &str, bytes: &[u8]) -> Result<Option<Digest>, AllocError>
+    ensures { IfOk result (λ found. (digest rest : List ℕ) → IsDigest digest
+        → bytes.now ≡ status_line 201 ++ (location_field (manifest_place name.now digest) ++ rest) → found ≡ Some digest) }
+{
+    let front = manifest_made_front(alloc, name)?;
+    Ok(digest_behind(bytes, front.as_slice()))
+}
+
+// The subject of a manifest that was stored under this digest.
+fn find_subject(
+    alloc: Global,
+    name: &str,
+    digest: &Digest,
+    bytes: &[u8],
+) -> Result<Option<Digest>, AllocError>
+    ensures { IfOk result (λ found. (subject rest : List ℕ) → IsDigest subject
+        → bytes.now ≡ status_line 201 ++ (location_field (manifest_place name.now digest.now) ++ (digest_field digest.now ++ (subject_field (Some subject) ++ rest)))
+        → found ≡ Some subject) }
+{
+    let front = subject_front(alloc, name, digest)?;
+    Ok(digest_behind(bytes, front.as_slice()))
 }
 
 // The reply of a manifest that was stored, up to the digest in its place.
