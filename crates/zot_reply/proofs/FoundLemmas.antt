@@ -299,6 +299,13 @@ pub matched : {A : Type 0} (P : A → Type 0) (found : Option A) (a : A) → Mat
 matched P (Some x) a m s = subst P (some_back x a s) m
 matched P None a m s = absurd m
 
+-- the digest and the media that are found are those of the bytes
+pub same_kind : (bytes : List ℕ) (found : Option (List ℕ × Media)) (kind : List ℕ × Media) (digest : List ℕ) (media : Media) (rest : List ℕ) (size : ℕ) (close : Bool)
+    → ((d : List ℕ) (m : Media) (r : List ℕ) → IsDigest d → bytes ≡ status_line 200 ++ (digest_field d ++ (type_field (Some (media_text m)) ++ r)) → found ≡ Some (d, m)) → IsDigest digest
+    → bytes ≡ status_line 200 ++ (digest_field digest ++ (body_lines 200 (Some (media_text media)) size close ++ rest)) → found ≡ Some kind → (kind.0 ≡ digest) × (kind.1 ≡ media)
+same_kind bytes found kind digest media rest size close h is e s =
+    same_pair found kind.0 digest kind.1 media (h digest media (behind_media size close rest) is (kind_place bytes digest (media_text media) rest size close e)) s
+
 -- ---- what is confirmed is found
 
 pub finds : (Kind : Reply → Type 0) (name : List ℕ) (head close : Bool) (bytes : List ℕ) (reply : Reply) (found : Option Reply)

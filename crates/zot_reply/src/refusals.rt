@@ -1,12 +1,10 @@
 //! Refusals that bytes may be.
-ghost use Rattle.std.specs.Prelude.{◌≡◌, ◌≢◌, ℕ, List, IfOk, IfSome, MatchOption};
-ghost use Rattle.zot_reply.specs.Reading.{Finds, IsRealDetail, IsRefusedAs, IsRefusedAmong, refusal_with};
+ghost use Rattle.std.specs.Prelude.{◌≢◌, IfOk};
+ghost use Rattle.zot_reply.specs.Reading.{Finds, IsRefusedAs, IsRefusedAmong, TellsDetail};
 ghost use Rattle.zot_digest.specs.Digest.{IsDigest};
 ghost use Rattle.zot_model.specs.declared.code.Code.TheVariants.{BlobUploadInvalid};
-ghost use Rattle.zot_model.specs.declared.detail.Detail.{Detail};
 ghost use Rattle.zot_model.specs.Fits.{HasDetail};
 ghost use Rattle.zot_spell.specs.Alike.{IsDetail};
-ghost use Rattle.zot_spell.specs.Spelling.{parts_of, spelled};
 
 use crate::codes::status_of_code;
 use crate::details::find_detail;
@@ -72,10 +70,7 @@ fn told_detail(
     code: Code,
 ) -> Result<Option<Detail>, AllocError>
     requires { code ≢ BlobUploadInvalid }
-    ensures kind { IfOk result (λ found. IfSome found (HasDetail code)) }
-    ensures whole { IfOk result (λ found. (name : List ℕ) (detail : Detail) → IsRealDetail detail → HasDetail code detail
-        → bytes.now ≡ spelled (parts_of name (refusal_with code detail)) head close
-        → MatchOption found ⊥ (λ told. bytes.now ≡ spelled (parts_of name (refusal_with code told)) head close)) }
+    ensures { IfOk result (TellsDetail code head close bytes.now) }
 {
     if head {
         Ok(Some(some_detail(code)))
