@@ -4,7 +4,7 @@ ghost use Rattle.zot_digest.specs.Digest.{IsDigest};
 ghost use Rattle.zot_spell.specs.Fields.{status_line, digest_field, location_field, manifest_place, subject_field};
 ghost use Rattle.zot_reply.specs.Reading.{Finds, IsManifestMade, IsWithSubject, IsWithoutSubject};
 
-use crate::finding::confirm;
+use crate::finding::{confirm, place_front};
 use crate::reading::digest_behind;
 use std::alloc::{AllocError, Global};
 use zot_digest::Digest;
@@ -72,7 +72,7 @@ fn find_made(alloc: Global, name: &str, bytes: &[u8]) -> Result<Option<Digest>, 
     ensures { IfOk result (λ found. (digest rest : List ℕ) → IsDigest digest
         → bytes.now ≡ status_line 201 ++ (location_field (manifest_place name.now digest) ++ rest) → found ≡ Some digest) }
 {
-    let front = manifest_made_front(alloc, name)?;
+    let front = place_front(alloc, name, 201, "/manifests/")?;
     Ok(digest_behind(bytes, front.as_slice()))
 }
 
@@ -91,21 +91,7 @@ fn find_subject(
     Ok(digest_behind(bytes, front.as_slice()))
 }
 
-// The reply of a manifest that was stored, up to the digest in its place.
-fn manifest_made_front(alloc: Global, name: &str) -> Result<Vec<u8>, AllocError>
-    ensures { IfOk result (λ front. front.items
-        ≡ status_line 201 ++ codes "Location: " ++ codes "/v2/" ++ name.now ++ codes "/manifests/") }
-{
-    let mut front = Vec::new(alloc);
-    push_status(&mut front, 201)?;
-    front.extend_from_slice(b"Location: ".as_slice())?;
-    front.extend_from_slice(b"/v2/".as_slice())?;
-    front.extend_from_slice(name.as_bytes())?;
-    front.extend_from_slice(b"/manifests/".as_slice())?;
-    Ok(front)
-}
-
-// The same up to its subject.
+// The lines of a manifest that was stored up to its subject.
 fn subject_front(alloc: Global, name: &str, digest: &Digest) -> Result<Vec<u8>, AllocError>
     ensures { IfOk result (λ front. front.items
         ≡ status_line 201 ++ location_field (manifest_place name.now digest.now) ++ digest_field digest.now ++ codes "OCI-Subject: ") }

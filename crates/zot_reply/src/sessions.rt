@@ -5,7 +5,7 @@ ghost use Rattle.zot_spell.specs.Fields.{status_line, location_field, upload_fie
 ghost use Rattle.zot_reply.specs.Reading.{Finds, IsRangeRefusal, IsSession};
 ghost use Rattle.http.specs.StatusCode.{IsStatusCode};
 
-use crate::finding::confirm;
+use crate::finding::{confirm, place_front};
 use crate::reading::{id_behind, number_behind};
 use std::alloc::{AllocError, Global};
 use zot_model::{Code, Detail, Reply};
@@ -88,7 +88,7 @@ fn find_id(
     ensures { IfOk result (λ found. (id size : ℕ) (rest : List ℕ) → id < 2 ^ 64
         → bytes.now ≡ status_line status ++ (upload_fields name.now id size ++ rest) → found ≡ Some id) }
 {
-    let front = id_front(alloc, name, status)?;
+    let front = place_front(alloc, name, status, "/blobs/uploads/")?;
     Ok(id_behind(bytes, front.as_slice()))
 }
 
@@ -106,21 +106,6 @@ fn find_last(
 {
     let front = range_front(alloc, name, id, status)?;
     Ok(number_behind(bytes, front.as_slice(), b'\r'))
-}
-
-// The lines of an upload up to its id.
-fn id_front(alloc: Global, name: &str, status: u16) -> Result<Vec<u8>, AllocError>
-    requires { IsStatusCode status }
-    ensures { IfOk result (λ front. front.items
-        ≡ status_line status ++ codes "Location: " ++ codes "/v2/" ++ name.now ++ codes "/blobs/uploads/") }
-{
-    let mut front = Vec::new(alloc);
-    push_status(&mut front, status)?;
-    front.extend_from_slice(b"Location: ".as_slice())?;
-    front.extend_from_slice(b"/v2/".as_slice())?;
-    front.extend_from_slice(name.as_bytes())?;
-    front.extend_from_slice(b"/blobs/uploads/".as_slice())?;
-    Ok(front)
 }
 
 // The lines of an upload up to the place of its last byte.
