@@ -1,5 +1,5 @@
 -- No other replies to a request share a spelling.
-use Rattle.std.proofs.Common.{◌≡◌, ◌⊎◌, inl, inr, ℕ, ◌<◌, ◌≤◌, Bool, false, List, [], ◌++◌, Option, Some, None, refl, sym, ap, subst, ◌∙◌, arith}
+use Rattle.std.proofs.Common.{◌≡◌, ◌⊎◌, inl, inr, ℕ, ◌<◌, ◌≤◌, Bool, false, List, [], ◌++◌, Option, Some, None, refl, sym, subst, ◌∙◌, arith}
 use Rattle.std.proofs.lemmas.List.{append_assoc}
 use Rattle.zot_model.specs.declared.call.Call.{Call}
 use Rattle.zot_model.specs.declared.call.Call.TheVariants as calls
@@ -16,7 +16,7 @@ use Rattle.zot_reply.proofs.CutLemmas.{same_status}
 use Rattle.zot_reply.proofs.ReplyingLemmas.{FindsFitting}
 use Rattle.zot_reply.proofs.SameLemmas.{AreSpelledAlike, blob_heads_alike, blobs_alike, blobs_made_alike, indexes_alike, manifest_heads_alike, manifests_alike, manifests_made_alike, pages_alike, same_blob_made, sessions_alike}
 use Rattle.zot_reply.proofs.SameRefusals.{refusals_alike}
-use Rattle.zot_reply.specs.Reading.{Finds, IsReal, IsTaken, Spells, is_head}
+use Rattle.zot_reply.specs.Reading.{IsReal, IsTaken, Spells, is_head}
 
 -- ---- statuses
 

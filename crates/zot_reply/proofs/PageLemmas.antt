@@ -1,6 +1,6 @@
 -- What the bytes of pages of tags are.
-use Rattle.std.proofs.Common.{◌≡◌, ◌≢◌, ℕ, zero, suc, ◌-◌, ◌<◌, ◌≤◌, ◌==◌, Bool, true, false, inl, inr, List, [], ◌∷◌, ◌++◌, length, take, drop, map, Option, Some, None, refl, sym, ap, ap₂, subst, ◌∙◌, arith, slice_index, append-nil, take_all}
-use Rattle.std.specs.Prelude.{IfOk, IsUtf8, MatchOption, Result, Ok, Err, codes}
+use Rattle.std.proofs.Common.{◌≡◌, ◌≢◌, ℕ, zero, suc, ◌-◌, ◌<◌, ◌≤◌, ◌==◌, Bool, true, false, inl, inr, List, [], ◌∷◌, ◌++◌, length, take, drop, map, Option, Some, None, refl, sym, ap, ap₂, ◌∙◌, arith, slice_index, append-nil, take_all}
+use Rattle.std.specs.Prelude.{IfOk, IsUtf8, Result, Ok, Err, codes}
 use Rattle.std.specs.Borrow.{Bor}
 use Rattle.std.specs.Fmt.{decimal}
 use Rattle.std.specs.List.{AllByRecursion, before_first}
@@ -132,13 +132,9 @@ pub left_none : (items tags : List (List ℕ)) (left : List ℕ) → AreLeft tag
 left_none items tags left (later, [], j, all, e) none = sym (append-nil items) ∙ j
 left_none items tags left (later, t ∷ ts, j, all, e) none = absurd (none later t ts all.0 e)
 
-pub first_of : (found : Option (List ℕ × Bor (List ℕ))) (tag : List ℕ) (rest : Bor (List ℕ)) (t : List ℕ) (ts : List (List ℕ)) → found ≡ Some (tag, rest)
-    → MatchOption found ⊥ (λ f. (f.0 ≡ t) × (f.1.now ≡ tags_text true ts)) → (tag ≡ t) × (rest.now ≡ tags_text true ts)
-first_of found tag rest t ts s h = subst (λ (o : Option (List ℕ × Bor (List ℕ))). MatchOption o ⊥ (λ f. (f.0 ≡ t) × (f.1.now ≡ tags_text true ts))) s h
-
-pub none_of : (found : Option (List ℕ × Bor (List ℕ))) (t : List ℕ) (ts : List (List ℕ)) → found ≡ None
-    → MatchOption found ⊥ (λ f. (f.0 ≡ t) × (f.1.now ≡ tags_text true ts)) → ⊥
-none_of found t ts s h = subst (λ (o : Option (List ℕ × Bor (List ℕ))). MatchOption o ⊥ (λ f. (f.0 ≡ t) × (f.1.now ≡ tags_text true ts))) s h
+-- what is first is this tag, and behind it stand these
+abbrev pub IsFirst : List ℕ → List (List ℕ) → List ℕ × Bor (List ℕ) → Type 0
+IsFirst t ts first = (first.0 ≡ t) × (first.1.now ≡ tags_text true ts)
 
 -- ---- pages
 

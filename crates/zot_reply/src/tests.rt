@@ -128,12 +128,12 @@ fn blobs(rt: HostRuntime) -> Result<(), Fail> {
         assert!(rt; is_back(alloc, Call::HeadBlob(digest), told, false)?);
     }
     assert!(rt; is_back(alloc, Call::DeleteBlob(digest), Reply::Deleted, true)?);
-    let mount = Call::Post {
+    let whole = Call::Post {
         mount: None,
         digest: Some(digest),
         body: bytes(alloc, b"abc")?,
     };
-    assert!(rt; is_back(alloc, mount, Reply::BlobMade { digest }, true)?);
+    assert!(rt; is_back(alloc, whole, Reply::BlobMade { digest }, true)?);
     Ok(())
 }
 
