@@ -1,5 +1,5 @@
 -- No other replies to a request share a spelling.
-use Rattle.std.proofs.Common.{◌≡◌, ◌⊎◌, inl, inr, ℕ, ◌<◌, ◌≤◌, Bool, false, List, [], ◌++◌, Option, Some, None, refl, sym, ap, subst, ◌∙◌, arith}
+use Rattle.std.proofs.Common.{◌≡◌, ◌⊎◌, inl, inr, ℕ, ◌<◌, ◌≤◌, Bool, false, List, [], ◌++◌, Option, Some, None, refl, sym, subst, ◌∙◌, arith}
 use Rattle.std.proofs.lemmas.List.{append_assoc}
 use Rattle.zot_model.specs.declared.call.Call.{Call}
 use Rattle.zot_model.specs.declared.call.Call.TheVariants as calls
@@ -13,9 +13,10 @@ use Rattle.zot_spell.specs.Spelling.{name_in, parts_of, reply_bytes, rest_of, sp
 use Rattle.zot_spell.proofs.FitLemmas.{not_success, session_status}
 use Rattle.zot_reply.proofs.CodeLemmas.{high_status}
 use Rattle.zot_reply.proofs.CutLemmas.{same_status}
+use Rattle.zot_reply.proofs.ReplyingLemmas.{FindsFitting}
 use Rattle.zot_reply.proofs.SameLemmas.{AreSpelledAlike, blob_heads_alike, blobs_alike, blobs_made_alike, indexes_alike, manifest_heads_alike, manifests_alike, manifests_made_alike, pages_alike, same_blob_made, sessions_alike}
 use Rattle.zot_reply.proofs.SameRefusals.{refusals_alike}
-use Rattle.zot_reply.specs.Reading.{Finds, IsReal, IsTaken, Spells, is_head}
+use Rattle.zot_reply.specs.Reading.{IsReal, IsTaken, Spells, is_head}
 
 -- ---- statuses
 
@@ -118,11 +119,9 @@ alone request a b c k h g x y e = fitting_alike (name_in (Some request)) request
 -- ---- what is read
 
 -- the reply that is found is like each one that has the bytes
-pub found_alike : (request : Request) (name bytes : List ℕ) (close : Bool) (found : Option Reply) (reply other : Reply) → name ≡ name_in (Some request)
-    → Finds (FitsCall request.call) name (is_head request.call) close bytes found → found ≡ Some reply → IsReal other → Spells request other bytes → AreAlike (is_head request.call) other reply
+pub found_alike : (request : Request) (bytes : List ℕ) (close : Bool) (found : Option Reply) (reply other : Reply) → FindsFitting request close bytes found → found ≡ Some reply
+    → IsReal other → Spells request other bytes → AreAlike (is_head request.call) other reply
 unfolding reply_bytes
-found_alike request name bytes close found reply other n h s real spelling =
-    let head = is_head request.call in
-    let f = subst (Finds (FitsCall request.call) name head close bytes) s h in
-    fitting_alike name request.call other reply spelling.close close spelling.fits f.0 real f.2
-    (ap (λ (x : List ℕ). spelled (parts_of x other) head spelling.close) n ∙ sym spelling.is ∙ f.1)
+found_alike request bytes close found reply other h s real spelling =
+    let f = subst (FindsFitting request close bytes) s h in
+    fitting_alike (name_in (Some request)) request.call other reply spelling.close close spelling.fits f.0 real f.2 (sym spelling.is ∙ f.1)

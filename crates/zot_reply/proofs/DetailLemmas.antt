@@ -1,5 +1,5 @@
 -- What the bytes of refusals with a detail are.
-use Rattle.std.proofs.Common.{◌≡◌, ◌≢◌, ℕ, Bool, true, false, List, [], ◌∷◌, ◌++◌, length, Option, Some, refl, sym, ap, ap₂, ◌∙◌}
+use Rattle.std.proofs.Common.{◌≡◌, ◌≢◌, ℕ, Bool, true, false, List, [], ◌∷◌, ◌++◌, length, Option, Some, refl, ap, ap₂, ◌∙◌}
 use Rattle.std.specs.Prelude.{IfOk, Result, Ok, Err, codes}
 use Rattle.std.specs.Borrow.{Bor}
 use Rattle.std.specs.Option.{option_copied}
@@ -11,14 +11,12 @@ use Rattle.zot_model.specs.declared.code.Code.{Code}
 use Rattle.zot_model.specs.declared.code.Code.TheVariants.{BlobUploadInvalid, ManifestBlobUnknown, Unsupported, UpstreamIncomplete, UpstreamInvalid, UpstreamMismatch}
 use Rattle.zot_model.specs.declared.detail.Detail.{Detail}
 use Rattle.zot_model.specs.declared.detail.Detail.TheVariants as details
-use Rattle.zot_model.specs.declared.reply.Reply.{Reply}
-use Rattle.zot_model.specs.declared.reply.Reply.TheVariants as replies
 use Rattle.zot_model.specs.Fits.{HasDetail, SaysDiffer, SaysMissing, SaysNothing, status_of}
 use Rattle.zot_spell.specs.Alike.{AreUnseenAlike, IsDetail}
 use Rattle.zot_spell.specs.Bodies.{detail_text, error_body, errors_value}
 use Rattle.zot_spell.specs.Codes.{code_text, message_text}
 use Rattle.zot_spell.specs.Fields.{status_line}
-use Rattle.zot_reply.specs.Reading.{IsReal, IsRealDetail, IsRefusedAs, TellsMissing, detail_front, refusal_with}
+use Rattle.zot_reply.specs.Reading.{IsRealDetail, TellsMissing, detail_front, refusal_with}
 use Rattle.zot_spell.specs.Spelling.{body_lines, json_media, parts_of, refusal_fields, rest_of, shown_body, spelled}
 use Rattle.zot_spell.proofs.AlikeLemmas.{differ_plain, refused_alike}
 use Rattle.zot_spell.proofs.PlainLemmas.{IsPlain, plain_digest, plain_text}
@@ -148,9 +146,12 @@ real_detail (details.Missing digest) h = h
 real_detail (details.Differ wanted found) h = h
 real_detail detail h = tt
 
-pub unseen_covers : (name : List ℕ) (close : Bool) (bytes : List ℕ) (code : Code) (status : ℕ) (said : Detail) → code ≢ BlobUploadInvalid → status ≡ status_of code → HasDetail code said → IsDetail said
-    → (reply : Reply) → IsReal reply → IsRefusedAs code reply → bytes ≡ spelled (parts_of name reply) true close → bytes ≡ spelled (parts_of name (replies.Refused status code said)) true close
-unseen_covers name close bytes code status said other s has digests (replies.Refused n reason detail) real kind e =
-    e ∙ ap₂ (λ (n : ℕ) (c : Code). spelled (parts_of name (replies.Refused n c detail)) true close) (kind.1 ∙ sym s) kind.0
-    ∙ refused_alike name status code detail said true close (real_detail detail real) digests (unseen_kind code detail said other kind.2 has)
-unseen_covers name close bytes code status said other s has digests reply real kind e = absurd kind
+-- to HEAD each detail of a code's kind has the same spelling
+pub unseen_covers : (name : List ℕ) (close : Bool) (bytes : List ℕ) (code : Code) (said : Detail) → code ≢ BlobUploadInvalid → HasDetail code said → IsDetail said
+    → (detail : Detail) → IsRealDetail detail → HasDetail code detail → bytes ≡ spelled (parts_of name (refusal_with code detail)) true close → bytes ≡ spelled (parts_of name (refusal_with code said)) true close
+unseen_covers name close bytes code said other has digests detail real kind e =
+    e ∙ refused_alike name (status_of code) code detail said true close (real_detail detail real) digests (unseen_kind code detail said other kind has)
+
+-- the bytes are the refusal with the detail that is told
+abbrev pub IsTold : List ℕ → Bool → Bool → List ℕ → Code → Detail → Type 0
+IsTold name head close bytes code detail = bytes ≡ spelled (parts_of name (refusal_with code detail)) head close

@@ -1,6 +1,6 @@
 -- What the bytes of each kind of reply are, piece by piece.
 use Rattle.std.proofs.Common.{◌≡◌, ℕ, ◌-◌, ◌<◌, ◌≤◌, ◌^◌, ◌==◌, arith, Bool, true, false, List, [], ◌∷◌, ◌++◌, length, Option, Some, None, refl, sym, ap, subst, ◌∙◌}
-use Rattle.std.specs.Prelude.{IfOk, Result, Ok, Err, codes}
+use Rattle.std.specs.Prelude.{IfOk, MatchOption, Result, Ok, Err, codes}
 use Rattle.std.specs.Borrow.{Bor}
 use Rattle.std.specs.Fmt.{decimal}
 use Rattle.std.specs.Option.{option_copied}
@@ -15,6 +15,7 @@ use Rattle.zot_model.specs.declared.detail.Detail.TheVariants as details
 use Rattle.zot_model.specs.declared.reply.Reply.{Reply}
 use Rattle.zot_model.specs.declared.reply.Reply.TheVariants as replies
 use Rattle.zot_names.specs.Upload.{upload_text}
+use Rattle.zot_spell.specs.Alike.{AreSizesAlike}
 use Rattle.zot_spell.specs.Bodies.{detail_text, error_body}
 use Rattle.zot_spell.specs.Fields.{blob_place, closing_field, crlf, digest_field, filter_field, length_field, location_field, manifest_place, range_field, range_text, size_field, status_line, subject_field, type_field, upload_field, upload_fields, upload_place}
 use Rattle.zot_reply.specs.Reading.{Confirms, Differs, Finds, IsBlob, IsBlobHead, IsBlobMade, IsIndex, IsManifest, IsManifestHead, IsRangeRefusal, IsReal, IsReferrers, IsSession, IsWithSubject, IsWithoutSubject}
@@ -112,27 +113,32 @@ pub media_place : (start media rest : List ℕ)
 unfolding type_field
 media_place start media rest = simp append_assoc
 
--- what stands behind the start of a reply that names a digest, in the lines of its body
-pub behind_start : (bytes digest start media rest : List ℕ) (size : ℕ) (close : Bool)
-    → bytes ≡ status_line 200 ++ (digest_field digest ++ (body_lines 200 (Some media) size close ++ rest)) → start ≡ status_line 200 ++ digest_field digest
-    → bytes ≡ start ++ (body_lines 200 (Some media) size close ++ rest)
-behind_start bytes digest start media rest size close e s = rw s (e ∙ sym (append_assoc (status_line 200) (digest_field digest) _))
+-- what stands behind the start of a reply whose digest was found
+pub behind_digest : (bytes digest other start rest : List ℕ) → bytes ≡ status_line 200 ++ (digest_field digest ++ rest) → start ≡ status_line 200 ++ digest_field other → other ≡ digest
+    → bytes ≡ start ++ rest
+behind_digest bytes digest other start rest e s same =
+    e ∙ sym (append_assoc (status_line 200) (digest_field digest) rest) ∙ ap (λ (t : List ℕ). t ++ rest) (sym (s ∙ ap (λ (d : List ℕ). status_line 200 ++ digest_field d) same))
 
-pub size_behind_start : (bytes digest start media rest : List ℕ) (size : ℕ) (close : Bool)
-    → bytes ≡ status_line 200 ++ (digest_field digest ++ (body_lines 200 (Some media) size close ++ rest)) → start ≡ status_line 200 ++ digest_field digest
-    → bytes ≡ start ++ (type_field (Some media) ++ (size_field size ++ ((closing_field close ++ crlf) ++ rest)))
-size_behind_start bytes digest start media rest size close e s =
-    behind_start bytes digest start media rest size close e s ∙ ap (λ (t : List ℕ). start ++ t) (body_place 200 media size close rest refl)
-
-pub named_behind_start : (bytes digest start media text rest : List ℕ) (size : ℕ) (close : Bool)
-    → bytes ≡ status_line 200 ++ (digest_field digest ++ (body_lines 200 (Some media) size close ++ rest)) → start ≡ status_line 200 ++ digest_field digest → text ≡ media
+pub named_behind_start : (bytes digest other start media text rest : List ℕ) (size : ℕ) (close : Bool)
+    → bytes ≡ status_line 200 ++ (digest_field digest ++ (body_lines 200 (Some media) size close ++ rest)) → start ≡ status_line 200 ++ digest_field other → other ≡ digest → text ≡ media
     → bytes ≡ start ++ (body_lines 200 (Some text) size close ++ rest)
-named_behind_start bytes digest start media text rest size close e s m = rw m (behind_start bytes digest start media rest size close e s)
+named_behind_start bytes digest other start media text rest size close e s same m =
+    behind_digest bytes digest other start (body_lines 200 (Some media) size close ++ rest) e s same ∙ ap (λ (t : List ℕ). start ++ (body_lines 200 (Some t) size close ++ rest)) (sym m)
 
-pub named_size_behind_start : (bytes digest start media text rest : List ℕ) (size : ℕ) (close : Bool)
-    → bytes ≡ status_line 200 ++ (digest_field digest ++ (body_lines 200 (Some media) size close ++ rest)) → start ≡ status_line 200 ++ digest_field digest → text ≡ media
-    → bytes ≡ start ++ (type_field (Some text) ++ (size_field size ++ ((closing_field close ++ crlf) ++ rest)))
-named_size_behind_start bytes digest start media text rest size close e s m = rw m (size_behind_start bytes digest start media rest size close e s)
+-- what stands behind the media of a reply's body
+abbrev pub behind_media : ℕ → Bool → List ℕ → List ℕ
+behind_media size close rest = size_field size ++ ((closing_field close ++ crlf) ++ rest)
+
+pub named_size_behind_start : (bytes digest other start media text rest : List ℕ) (size : ℕ) (close : Bool)
+    → bytes ≡ status_line 200 ++ (digest_field digest ++ (body_lines 200 (Some media) size close ++ rest)) → start ≡ status_line 200 ++ digest_field other → other ≡ digest → text ≡ media
+    → bytes ≡ start ++ (type_field (Some text) ++ behind_media size close rest)
+named_size_behind_start bytes digest other start media text rest size close e s same m =
+    named_behind_start bytes digest other start media text rest size close e s same m ∙ ap (λ (t : List ℕ). start ++ t) (body_place 200 text size close rest refl)
+
+pub kind_place : (bytes digest media rest : List ℕ) (size : ℕ) (close : Bool)
+    → bytes ≡ status_line 200 ++ (digest_field digest ++ (body_lines 200 (Some media) size close ++ rest))
+    → bytes ≡ status_line 200 ++ (digest_field digest ++ (type_field (Some media) ++ behind_media size close rest))
+kind_place bytes digest media rest size close e = e ∙ ap (λ (t : List ℕ). status_line 200 ++ (digest_field digest ++ t)) (body_place 200 media size close rest refl)
 
 -- ---- blobs that were stored, and uploads
 
@@ -150,17 +156,36 @@ pub for_session : (status : ℕ) (P : Reply → Type 0) → ((id size : ℕ) →
 for_session status P f (replies.Session id size code) h = subst (λ (s : ℕ). P (replies.Session id size s)) (sym h) (f id size)
 for_session status P f reply h = absurd h
 
-pub session_bytes : (name : List ℕ) (id size status : ℕ) (close : Bool)
-    → spelled (parts_of name (replies.Session id size status)) false close
-    ≡ (status_line status ++ codes "Location: " ++ codes "/v2/" ++ name ++ codes "/blobs/uploads/") ++ (upload_text id ++ (crlf ++ (range_field size ++ (upload_field id ++ (body_lines status None 0 close ++ [])))))
-unfolding spelled parts_of rest_of shown_body upload_fields location_field upload_place
-session_bytes name id size status close = simp append_assoc
+-- the lines of an upload through the place of its name
+abbrev pub id_front : List ℕ → ℕ → List ℕ
+id_front name status = status_line status ++ codes "Location: " ++ codes "/v2/" ++ name ++ codes "/blobs/uploads/"
 
-pub range_bytes : (name : List ℕ) (id size status : ℕ) (close : Bool)
-    → spelled (parts_of name (replies.Session id size status)) false close
-    ≡ (status_line status ++ location_field (upload_place name id) ++ codes "Range: " ++ codes "0-") ++ (decimal (size - 1) ++ (13 ∷ (10 ∷ (upload_field id ++ (body_lines status None 0 close ++ [])))))
-unfolding spelled parts_of rest_of shown_body upload_fields range_field range_text
-range_bytes name id size status close = simp append_assoc
+-- what stands behind the id in its place
+abbrev pub behind_id : ℕ → ℕ → List ℕ → List ℕ
+behind_id id size rest = crlf ++ (range_field size ++ (upload_field id ++ rest))
+
+pub id_place : (name : List ℕ) (status id size : ℕ) (rest : List ℕ)
+    → status_line status ++ (upload_fields name id size ++ rest) ≡ id_front name status ++ (upload_text id ++ behind_id id size rest)
+unfolding upload_fields location_field upload_place
+id_place name status id size rest = simp append_assoc
+
+-- the lines of an upload up to the place of its last byte
+abbrev pub last_front : List ℕ → ℕ → ℕ → List ℕ
+last_front name id status = status_line status ++ location_field (upload_place name id) ++ codes "Range: " ++ codes "0-"
+
+pub last_place : (name : List ℕ) (status id size : ℕ) (rest : List ℕ)
+    → status_line status ++ (upload_fields name id size ++ rest) ≡ last_front name id status ++ (decimal (size - 1) ++ (13 ∷ (10 ∷ (upload_field id ++ rest))))
+unfolding upload_fields range_field range_text
+last_place name status id size rest = simp append_assoc
+
+pub session_bytes : (name : List ℕ) (id size status : ℕ) (close : Bool)
+    → spelled (parts_of name (replies.Session id size status)) false close ≡ status_line status ++ (upload_fields name id size ++ (body_lines status None 0 close ++ []))
+unfolding spelled parts_of rest_of shown_body
+session_bytes name id size status close = append_assoc (status_line status) (upload_fields name id size) _
+
+-- an upload of this id, and of a size with the same range
+abbrev pub IsUpload : ℕ → ℕ → ℕ × ℕ → Type 0
+IsUpload id size upload = (upload.0 ≡ id) × AreSizesAlike size upload.1
 
 -- an upload's size counts for its spelling only by the place of its last byte
 pub session_alike : (name : List ℕ) (id size other status : ℕ) (close : Bool) → size - 1 ≡ other - 1
@@ -202,21 +227,32 @@ for_with P f (replies.ManifestMade digest (Some subject)) h = f digest subject
 for_with P f (replies.ManifestMade digest None) h = absurd h
 for_with P f reply h = absurd h
 
--- what stands behind the digest in the place of a manifest that was stored
-abbrev pub behind_manifest : List ℕ → Option (List ℕ) → Bool → List ℕ
-behind_manifest digest subject close = crlf ++ (digest_field digest ++ (subject_field subject ++ (body_lines 201 None 0 close ++ [])))
+-- the lines of a manifest that was stored through the place of its name
+abbrev pub manifest_front : List ℕ → List ℕ
+manifest_front name = status_line 201 ++ codes "Location: " ++ codes "/v2/" ++ name ++ codes "/manifests/"
+
+-- what stands behind the place of a manifest that was stored
+abbrev pub behind_place : List ℕ → Option (List ℕ) → Bool → List ℕ
+behind_place digest subject close = digest_field digest ++ (subject_field subject ++ (body_lines 201 None 0 close ++ []))
 
 pub manifest_made_bytes : (name digest : List ℕ) (subject : Option (List ℕ)) (close : Bool)
-    → spelled (parts_of name (replies.ManifestMade digest subject)) false close
-    ≡ (status_line 201 ++ codes "Location: " ++ codes "/v2/" ++ name ++ codes "/manifests/") ++ (digest_text digest ++ behind_manifest digest subject close)
-unfolding spelled parts_of rest_of shown_body location_field manifest_place
+    → spelled (parts_of name (replies.ManifestMade digest subject)) false close ≡ status_line 201 ++ (location_field (manifest_place name digest) ++ behind_place digest subject close)
+unfolding spelled parts_of rest_of shown_body
 manifest_made_bytes name digest subject close = simp append_assoc
 
-pub subject_bytes : (name digest subject : List ℕ) (close : Bool)
-    → spelled (parts_of name (replies.ManifestMade digest (Some subject))) false close
-    ≡ (status_line 201 ++ location_field (manifest_place name digest) ++ digest_field digest ++ codes "OCI-Subject: ") ++ (digest_text subject ++ (crlf ++ (body_lines 201 None 0 close ++ [])))
-unfolding spelled parts_of rest_of shown_body subject_field
-subject_bytes name digest subject close = simp append_assoc
+pub made_place : (name digest rest : List ℕ)
+    → status_line 201 ++ (location_field (manifest_place name digest) ++ rest) ≡ manifest_front name ++ (digest_text digest ++ (crlf ++ rest))
+unfolding location_field manifest_place
+made_place name digest rest = simp append_assoc
+
+-- the lines of a manifest that was stored up to its subject
+abbrev pub subject_front : List ℕ → List ℕ → List ℕ
+subject_front name digest = status_line 201 ++ location_field (manifest_place name digest) ++ digest_field digest ++ codes "OCI-Subject: "
+
+pub subject_place : (name digest subject rest : List ℕ)
+    → status_line 201 ++ (location_field (manifest_place name digest) ++ (digest_field digest ++ (subject_field (Some subject) ++ rest))) ≡ subject_front name digest ++ (digest_text subject ++ (crlf ++ rest))
+unfolding subject_field
+subject_place name digest subject rest = simp append_assoc
 
 -- ---- refusals
 
@@ -235,22 +271,40 @@ for_range_refusal P f (replies.Refused status code (details.Session id size)) h 
     subst (λ (s : ℕ). P (replies.Refused s code (details.Session id size))) (sym h.0) (subst (λ (c : Code). P (replies.Refused 416 c (details.Session id size))) (sym h.1) (f id size))
 for_range_refusal P f reply h = absurd h
 
-pub refusal_id_bytes : (name : List ℕ) (id size : ℕ) (head close : Bool)
-    → spelled (parts_of name (range_refusal id size)) head close
-    ≡ (status_line 416 ++ codes "Location: " ++ codes "/v2/" ++ name ++ codes "/blobs/uploads/") ++ (upload_text id ++ (crlf ++ (range_field size ++ (upload_field id ++ behind_refusal id size head close))))
-unfolding spelled parts_of rest_of refusal_fields upload_fields location_field upload_place
-refusal_id_bytes name id size head close = simp append_assoc
-
-pub refusal_range_bytes : (name : List ℕ) (id size : ℕ) (head close : Bool)
-    → spelled (parts_of name (range_refusal id size)) head close
-    ≡ (status_line 416 ++ location_field (upload_place name id) ++ codes "Range: " ++ codes "0-") ++ (decimal (size - 1) ++ (13 ∷ (10 ∷ (upload_field id ++ behind_refusal id size head close))))
-unfolding spelled parts_of rest_of refusal_fields upload_fields range_field range_text
-refusal_range_bytes name id size head close = simp append_assoc
+pub refusal_bytes : (name : List ℕ) (id size : ℕ) (head close : Bool)
+    → spelled (parts_of name (range_refusal id size)) head close ≡ status_line 416 ++ (upload_fields name id size ++ behind_refusal id size head close)
+unfolding spelled parts_of rest_of refusal_fields
+refusal_bytes name id size head close = append_assoc (status_line 416) (upload_fields name id size) _
 
 pub range_refusal_alike : (name : List ℕ) (id size other : ℕ) (head close : Bool) → size - 1 ≡ other - 1
     → spelled (parts_of name (range_refusal id size)) head close ≡ spelled (parts_of name (range_refusal id other)) head close
 unfolding parts_of refusal_fields upload_fields range_field range_text error_body detail_text
 range_refusal_alike name id size other head close h = rw h refl
+
+-- ---- what was found
+
+some_back : {A : Type 0} (a x : A) → Some a ≡ Some x → a ≡ x
+some_back a x h = cc h
+
+pub same_pair : {A B : Type 0} (found : Option (A × B)) (a x : A) (b y : B) → found ≡ Some (x, y) → found ≡ Some (a, b) → (a ≡ x) × (b ≡ y)
+same_pair {A} {B} found a x b y e s =
+    let p = some_back (a, b) (x, y) (sym s ∙ e) in
+    (ap (λ (q : A × B). q.0) p, ap (λ (q : A × B). q.1) p)
+
+pub unmatched : {A : Type 0} (P : A → Type 0) (found : Option A) → MatchOption found ⊥ P → found ≡ None → ⊥
+unmatched P None m s = m
+unmatched P (Some a) m s = cc s
+
+pub matched : {A : Type 0} (P : A → Type 0) (found : Option A) (a : A) → MatchOption found ⊥ P → found ≡ Some a → P a
+matched P (Some x) a m s = subst P (some_back x a s) m
+matched P None a m s = absurd m
+
+-- the digest and the media that are found are those of the bytes
+pub same_kind : (bytes : List ℕ) (found : Option (List ℕ × Media)) (kind : List ℕ × Media) (digest : List ℕ) (media : Media) (rest : List ℕ) (size : ℕ) (close : Bool)
+    → ((d : List ℕ) (m : Media) (r : List ℕ) → IsDigest d → bytes ≡ status_line 200 ++ (digest_field d ++ (type_field (Some (media_text m)) ++ r)) → found ≡ Some (d, m)) → IsDigest digest
+    → bytes ≡ status_line 200 ++ (digest_field digest ++ (body_lines 200 (Some (media_text media)) size close ++ rest)) → found ≡ Some kind → (kind.0 ≡ digest) × (kind.1 ≡ media)
+same_kind bytes found kind digest media rest size close h is e s =
+    same_pair found kind.0 digest kind.1 media (h digest media (behind_media size close rest) is (kind_place bytes digest (media_text media) rest size close e)) s
 
 -- ---- what is confirmed is found
 

@@ -1,6 +1,6 @@
 -- What the bytes of pages of tags are.
-use Rattle.std.proofs.Common.{◌≡◌, ◌≢◌, ℕ, zero, suc, ◌-◌, ◌<◌, ◌≤◌, ◌==◌, Bool, true, false, inl, inr, List, [], ◌∷◌, ◌++◌, length, take, drop, map, Option, Some, None, refl, sym, ap, ap₂, subst, ◌∙◌, arith, slice_index, append-nil, take_all}
-use Rattle.std.specs.Prelude.{IfOk, IsUtf8, MatchOption, Result, Ok, Err, codes}
+use Rattle.std.proofs.Common.{◌≡◌, ◌≢◌, ℕ, zero, suc, ◌-◌, ◌<◌, ◌≤◌, ◌==◌, Bool, true, false, inl, inr, List, [], ◌∷◌, ◌++◌, length, take, drop, map, Option, Some, None, refl, sym, ap, ap₂, ◌∙◌, arith, slice_index, append-nil, take_all}
+use Rattle.std.specs.Prelude.{IfOk, IsUtf8, Result, Ok, Err, codes}
 use Rattle.std.specs.Borrow.{Bor}
 use Rattle.std.specs.Fmt.{decimal}
 use Rattle.std.specs.List.{AllByRecursion, before_first}
@@ -132,13 +132,9 @@ pub left_none : (items tags : List (List ℕ)) (left : List ℕ) → AreLeft tag
 left_none items tags left (later, [], j, all, e) none = sym (append-nil items) ∙ j
 left_none items tags left (later, t ∷ ts, j, all, e) none = absurd (none later t ts all.0 e)
 
-pub first_of : (found : Option (List ℕ × Bor (List ℕ))) (tag : List ℕ) (rest : Bor (List ℕ)) (t : List ℕ) (ts : List (List ℕ)) → found ≡ Some (tag, rest)
-    → MatchOption found ⊥ (λ f. (f.0 ≡ t) × (f.1.now ≡ tags_text true ts)) → (tag ≡ t) × (rest.now ≡ tags_text true ts)
-first_of found tag rest t ts s h = subst (λ (o : Option (List ℕ × Bor (List ℕ))). MatchOption o ⊥ (λ f. (f.0 ≡ t) × (f.1.now ≡ tags_text true ts))) s h
-
-pub none_of : (found : Option (List ℕ × Bor (List ℕ))) (t : List ℕ) (ts : List (List ℕ)) → found ≡ None
-    → MatchOption found ⊥ (λ f. (f.0 ≡ t) × (f.1.now ≡ tags_text true ts)) → ⊥
-none_of found t ts s h = subst (λ (o : Option (List ℕ × Bor (List ℕ))). MatchOption o ⊥ (λ f. (f.0 ≡ t) × (f.1.now ≡ tags_text true ts))) s h
+-- what is first is this tag, and behind it stand these
+abbrev pub IsFirst : List ℕ → List (List ℕ) → List ℕ × Bor (List ℕ) → Type 0
+IsFirst t ts first = (first.0 ≡ t) × (first.1.now ≡ tags_text true ts)
 
 -- ---- pages
 
@@ -170,33 +166,44 @@ pub last_alike : (name : List ℕ) (tags : List (List ℕ)) (n m : ℕ) (close :
 unfolding parts_of link_field
 last_alike name tags n m close = refl
 
-number_assoc : (s k a v n t d m g b e r : List ℕ) → (s ++ (k ++ (a ++ (v ++ n ++ t ++ d ++ m ++ g) ++ b) ++ e)) ++ r ≡ (s ++ k ++ a ++ v ++ n ++ t) ++ (d ++ (m ++ (g ++ (b ++ (e ++ r)))))
-number_assoc s k a v n t d m g b e r = simp append_assoc
+-- the lines of a page through the name in its link
+abbrev pub number_front : List ℕ → List ℕ
+number_front name = status_line 200 ++ codes "Link: " ++ codes "<" ++ codes "/v2/" ++ name ++ codes "/tags/list?n="
 
-tag_assoc : (s k a v n t d m g b e r : List ℕ) → (s ++ (k ++ (a ++ (v ++ n ++ t ++ d ++ m ++ g) ++ b) ++ e)) ++ r ≡ ((s ++ k ++ a ++ v ++ n ++ t) ++ (d ++ m)) ++ (g ++ (b ++ (e ++ r)))
-tag_assoc s k a v n t d m g b e r = simp append_assoc
+-- what stands behind the tag of a link, and behind its number
+abbrev pub behind_tag : List ℕ → List ℕ
+behind_tag rest = codes "; rel=\"next\"" ++ (crlf ++ rest)
+
+abbrev pub behind_number : List ℕ → List ℕ → List ℕ
+behind_number tag rest = codes "last=" ++ (tag ++ (62 ∷ behind_tag rest))
+
+pair_assoc : (a b c d : List ℕ) → a ++ (b ++ (c ++ d)) ≡ (a ++ (b ++ c)) ++ d
+pair_assoc a b c d = simp append_assoc
+
+number_assoc : (s k a v n t d m g b e r : List ℕ) → s ++ ((k ++ (a ++ (v ++ n ++ t ++ d ++ m ++ g) ++ b) ++ e) ++ r) ≡ (s ++ k ++ a ++ v ++ n ++ t) ++ (d ++ (m ++ (g ++ (b ++ (e ++ r)))))
+number_assoc s k a v n t d m g b e r = simp append_assoc
 
 link_is : (name tag : List ℕ) (n : ℕ) → link_field name n (Some tag) ≡ codes "Link: " ++ (codes "<" ++ (codes "/v2/" ++ name ++ codes "/tags/list?n=" ++ decimal n ++ codes "&last=" ++ tag) ++ codes ">; rel=\"next\"") ++ crlf
 unfolding link_field link_text page_place
 link_is name tag n = refl
 
--- what stands behind the number, and behind the tag
-abbrev pub behind_tag : List ℕ → List (List ℕ) → Bool → List ℕ
-behind_tag name tags close = codes "; rel=\"next\"" ++ (crlf ++ page_rest name tags close)
+pub number_place : (name tag rest : List ℕ) (n : ℕ)
+    → status_line 200 ++ (link_field name n (Some tag) ++ rest) ≡ number_front name ++ (decimal n ++ (38 ∷ behind_number tag rest))
+number_place name tag rest n =
+    ap (λ (l : List ℕ). status_line 200 ++ (l ++ rest)) (link_is name tag n)
+    ∙ number_assoc (status_line 200) (codes "Link: ") (codes "<") (codes "/v2/") name (codes "/tags/list?n=") (decimal n) (codes "&last=") tag (codes ">; rel=\"next\"") crlf rest
 
-abbrev pub behind_number : List ℕ → List (List ℕ) → List ℕ → Bool → List ℕ
-behind_number name tags tag close = codes "last=" ++ (tag ++ (62 ∷ behind_tag name tags close))
+-- what stands behind the lines of a page up to the tag of its link, where its number was found
+pub tag_place : (name bytes front tag rest : List ℕ) (n k : ℕ) → bytes ≡ status_line 200 ++ (link_field name n (Some tag) ++ rest)
+    → front ≡ number_front name ++ (decimal k ++ codes "&last=") → k ≡ n → bytes ≡ front ++ (tag ++ (62 ∷ behind_tag rest))
+tag_place name bytes front tag rest n k e s same =
+    e ∙ number_place name tag rest n ∙ pair_assoc (number_front name) (decimal n) (codes "&last=") (tag ++ (62 ∷ behind_tag rest))
+    ∙ ap (λ (f : List ℕ). f ++ (tag ++ (62 ∷ behind_tag rest))) (sym (s ∙ ap (λ (m : ℕ). number_front name ++ (decimal m ++ codes "&last=")) same))
+
+pub linked_bytes : (name : List ℕ) (tags : List (List ℕ)) (tag : List ℕ) (n : ℕ) (close : Bool)
+    → spelled (parts_of name (replies.Tags tags (Some tag) n)) false close ≡ status_line 200 ++ (link_field name n (Some tag) ++ page_rest name tags close)
+linked_bytes name tags tag n close = page_bytes name tags (Some tag) n close ∙ append_assoc (status_line 200) (link_field name n (Some tag)) (page_rest name tags close)
 
 pub number_bytes : (name : List ℕ) (tags : List (List ℕ)) (tag : List ℕ) (n : ℕ) (close : Bool)
-    → spelled (parts_of name (replies.Tags tags (Some tag) n)) false close
-    ≡ (status_line 200 ++ codes "Link: " ++ codes "<" ++ codes "/v2/" ++ name ++ codes "/tags/list?n=") ++ (decimal n ++ (38 ∷ behind_number name tags tag close))
-number_bytes name tags tag n close =
-    page_bytes name tags (Some tag) n close ∙ ap (λ (l : List ℕ). (status_line 200 ++ l) ++ page_rest name tags close) (link_is name tag n)
-    ∙ number_assoc (status_line 200) (codes "Link: ") (codes "<") (codes "/v2/") name (codes "/tags/list?n=") (decimal n) (codes "&last=") tag (codes ">; rel=\"next\"") crlf (page_rest name tags close)
-
-pub tag_bytes_of : (name : List ℕ) (tags : List (List ℕ)) (tag : List ℕ) (n : ℕ) (close : Bool)
-    → spelled (parts_of name (replies.Tags tags (Some tag) n)) false close
-    ≡ ((status_line 200 ++ codes "Link: " ++ codes "<" ++ codes "/v2/" ++ name ++ codes "/tags/list?n=") ++ (decimal n ++ codes "&last=")) ++ (tag ++ (62 ∷ behind_tag name tags close))
-tag_bytes_of name tags tag n close =
-    page_bytes name tags (Some tag) n close ∙ ap (λ (l : List ℕ). (status_line 200 ++ l) ++ page_rest name tags close) (link_is name tag n)
-    ∙ tag_assoc (status_line 200) (codes "Link: ") (codes "<") (codes "/v2/") name (codes "/tags/list?n=") (decimal n) (codes "&last=") tag (codes ">; rel=\"next\"") crlf (page_rest name tags close)
+    → spelled (parts_of name (replies.Tags tags (Some tag) n)) false close ≡ number_front name ++ (decimal n ++ (38 ∷ behind_number tag (page_rest name tags close)))
+number_bytes name tags tag n close = linked_bytes name tags tag n close ∙ number_place name tag (page_rest name tags close) n

@@ -33,31 +33,22 @@ among_found name head close bytes codes code found reply h s among =
 
 -- ---- to a request
 
-pub spells : (request : Request) (name bytes : List ℕ) (close : Bool) (found : Option Reply) (reply : Reply) → name ≡ name_in (Some request)
-    → Finds (FitsCall request.call) name (is_head request.call) close bytes found → found ≡ Some reply → Spells request reply bytes
-unfolding reply_bytes
-spells request name bytes close found reply n h s =
-    let k = subst (Finds (FitsCall request.call) name (is_head request.call) close bytes) s h in
-    record { fits = k.0; close = close; is = k.1 ∙ ap (λ (x : List ℕ). spelled (parts_of x reply) (is_head request.call) close) n }
+-- of the replies that fit a request, the bytes are this one, or they are none
+abbrev pub FindsFitting : Request → Bool → List ℕ → Option Reply → Type 0
+FindsFitting request close bytes found = Finds (FitsCall request.call) (name_in (Some request)) (is_head request.call) close bytes found
 
-none_spelled : (request : Request) (name bytes : List ℕ) (close : Bool) (found : Option Reply) → name ≡ name_in (Some request)
-    → Finds (FitsCall request.call) name (is_head request.call) close bytes found → found ≡ None
-    → (reply : Reply) → IsReal reply → Fits request reply → bytes ≡ reply_bytes (Some request) reply (is_head request.call) close → ⊥
+pub spells : (request : Request) (bytes : List ℕ) (close : Bool) (found : Option Reply) (reply : Reply) → FindsFitting request close bytes found → found ≡ Some reply → Spells request reply bytes
 unfolding reply_bytes
-none_spelled request name bytes close found n h s reply real fits e =
-    subst (Finds (FitsCall request.call) name (is_head request.call) close bytes) s h reply real fits
-    (e ∙ ap (λ (x : List ℕ). spelled (parts_of x reply) (is_head request.call) close) (sym n))
+spells request bytes close found reply h s =
+    let k = subst (FindsFitting request close bytes) s h in
+    record { fits = k.0; close = close; is = k.1 }
 
-by_close : (request : Request) (name bytes : List ℕ) (found other : Option Reply) → name ≡ name_in (Some request)
-    → Finds (FitsCall request.call) name (is_head request.call) false bytes found → found ≡ None
-    → Finds (FitsCall request.call) name (is_head request.call) true bytes other → other ≡ None
+by_close : (request : Request) (bytes : List ℕ) (found other : Option Reply) → FindsFitting request false bytes found → found ≡ None → FindsFitting request true bytes other → other ≡ None
     → (reply : Reply) → IsReal reply → Fits request reply → (close : Bool) → bytes ≡ reply_bytes (Some request) reply (is_head request.call) close → ⊥
-by_close request name bytes found other n h s k t reply real fits false e = none_spelled request name bytes false found n h s reply real fits e
-by_close request name bytes found other n h s k t reply real fits true e = none_spelled request name bytes true other n k t reply real fits e
+unfolding reply_bytes
+by_close request bytes found other h s k t reply real fits false e = subst (FindsFitting request false bytes) s h reply real fits e
+by_close request bytes found other h s k t reply real fits true e = subst (FindsFitting request true bytes) t k reply real fits e
 
-pub none_spells : (request : Request) (name bytes : List ℕ) (found other : Option Reply) → name ≡ name_in (Some request)
-    → Finds (FitsCall request.call) name (is_head request.call) false bytes found → found ≡ None
-    → Finds (FitsCall request.call) name (is_head request.call) true bytes other → other ≡ None
+pub none_spells : (request : Request) (bytes : List ℕ) (found other : Option Reply) → FindsFitting request false bytes found → found ≡ None → FindsFitting request true bytes other → other ≡ None
     → (reply : Reply) → IsReal reply → Spells request reply bytes → ⊥
-none_spells request name bytes found other n h s k t reply real spelling =
-    by_close request name bytes found other n h s k t reply real spelling.fits spelling.close spelling.is
+none_spells request bytes found other h s k t reply real spelling = by_close request bytes found other h s k t reply real spelling.fits spelling.close spelling.is

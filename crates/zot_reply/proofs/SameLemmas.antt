@@ -16,11 +16,11 @@ use Rattle.zot_names.specs.Tag.{IsTag}
 use Rattle.zot_names.specs.Upload.{upload_text}
 use Rattle.zot_spell.specs.Alike.{AreAlike, AreSizesAlike}
 use Rattle.zot_spell.specs.Bodies.{page_body}
-use Rattle.zot_spell.specs.Fields.{crlf, digest_field, filter_field, length_field, link_field, range_field, range_text, size_field, status_line, subject_field, type_field, upload_field}
+use Rattle.zot_spell.specs.Fields.{crlf, digest_field, filter_field, length_field, link_field, range_field, range_text, size_field, status_line, subject_field, type_field, upload_field, upload_fields}
 use Rattle.zot_spell.specs.Spelling.{body_lines, byte_media, json_media, parts_of, spelled}
 use Rattle.zot_reply.proofs.CutLemmas.{cut_front, same_body, same_digest, same_digest_field, same_ended, same_id, same_named_body}
-use Rattle.zot_reply.proofs.FoundLemmas.{ap₃, behind_manifest, blob_bytes, blob_head_bytes, blob_made_bytes, index_bytes, manifest_bytes, manifest_head_bytes, manifest_made_bytes, session_bytes}
-use Rattle.zot_reply.proofs.PageLemmas.{behind_number, behind_tag, last_alike, number_bytes, page_bytes, page_is, page_rest, tag_free_of_end, tag_free_of_quote}
+use Rattle.zot_reply.proofs.FoundLemmas.{ap₃, behind_id, behind_place, blob_bytes, blob_head_bytes, blob_made_bytes, id_front, id_place, index_bytes, made_place, manifest_bytes, manifest_front, manifest_head_bytes, manifest_made_bytes, session_bytes}
+use Rattle.zot_reply.proofs.PageLemmas.{behind_number, behind_tag, last_alike, number_bytes, page_bytes, page_is, page_rest, tag_free_of_end, tag_free_of_quote, number_front}
 use Rattle.zot_reply.proofs.ReadingLemmas.{decimal_free}
 use Rattle.zot_reply.specs.Reading.{IsBlob, IsBlobHead, IsBlobMade, IsManifest, IsManifestHead, IsManifestMade, IsPage, IsReal, IsReferrers, IsSession, page_front, tags_text}
 
@@ -89,18 +89,10 @@ same_range n m a b x y e =
     let s = same_ended 13 (decimal (n - 1)) (decimal (m - 1)) (10 ∷ a) (10 ∷ b) (decimal_free 13 (n - 1) (omega arith)) (decimal_free 13 (m - 1) (omega arith)) number in
     decimal_injective (n - 1) (m - 1) (omega (arith, x)) (omega (arith, y)) s.0
 
--- the lines of an upload through the place of its name
-abbrev pub id_front : List ℕ → ℕ → List ℕ
-id_front name status = status_line status ++ codes "Location: " ++ codes "/v2/" ++ name ++ codes "/blobs/uploads/"
-
--- what stands behind the id in its place
-abbrev pub behind_id : ℕ → ℕ → List ℕ → List ℕ
-behind_id id size rest = crlf ++ (range_field size ++ (upload_field id ++ rest))
-
 pub same_upload : (name : List ℕ) (status i j n m : ℕ) (a b : List ℕ) → i < 2 ^ 64 → j < 2 ^ 64 → n < 2 ^ 64 → m < 2 ^ 64
-    → id_front name status ++ (upload_text i ++ behind_id i n a) ≡ id_front name status ++ (upload_text j ++ behind_id j m b) → (i ≡ j) × AreSizesAlike n m
+    → status_line status ++ (upload_fields name i n ++ a) ≡ status_line status ++ (upload_fields name j m ++ b) → (i ≡ j) × AreSizesAlike n m
 same_upload name status i j n m a b x y p q e =
-    let place = cut_front (id_front name status) (upload_text i ++ behind_id i n a) (upload_text j ++ behind_id j m b) e in
+    let place = cut_front (id_front name status) (upload_text i ++ behind_id i n a) (upload_text j ++ behind_id j m b) (sym (id_place name status i n a) ∙ e ∙ id_place name status j m b) in
     let id = same_id i j (behind_id i n a) (behind_id j m b) x y place in
     let range = cut_front crlf (range_field n ++ (upload_field i ++ a)) (range_field m ++ (upload_field j ++ b)) id.1 in
     (id.0, same_range n m (upload_field i ++ a) (upload_field j ++ b) p q range)
@@ -157,10 +149,6 @@ manifest_heads_alike name (replies.ManifestHead d u n) (replies.ManifestHead f v
 manifest_heads_alike name (replies.ManifestHead d u n) b c k i j x y e = absurd j
 manifest_heads_alike name a b c k i j x y e = absurd i
 
--- the lines of a manifest that was stored through the place of its name
-abbrev manifest_front : List ℕ → List ℕ
-manifest_front name = status_line 201 ++ codes "Location: " ++ codes "/v2/" ++ name ++ codes "/manifests/"
-
 -- the lines of such a reply behind its own
 abbrev made_end : Bool → List ℕ
 made_end close = body_lines 201 None 0 close ++ []
@@ -181,9 +169,10 @@ same_subject (Some d) None c k x y e = let first : 79 ≡ 67 = ap (λ (l : List 
 same_manifest_made : (name d f : List ℕ) (s t : Option (List ℕ)) (c k : Bool) → IsDigest d → IsDigest f → IfSome s IsDigest → IfSome t IsDigest
     → AreSpelledAlike name false c k (replies.ManifestMade d s) (replies.ManifestMade f t) → replies.ManifestMade d s ≡ replies.ManifestMade f t
 same_manifest_made name d f s t c k x y p q e =
-    let place = cut_front (manifest_front name) (digest_text d ++ behind_manifest d s c) (digest_text f ++ behind_manifest f t k) (sym (manifest_made_bytes name d s c) ∙ e ∙ manifest_made_bytes name f t k) in
-    let behind = (same_digest d f (behind_manifest d s c) (behind_manifest f t k) x y place).1 in
-    let own = cut_front crlf (digest_field d ++ (subject_field s ++ made_end c)) (digest_field f ++ (subject_field t ++ made_end k)) behind in
+    let whole = sym (made_place name d (behind_place d s c)) ∙ sym (manifest_made_bytes name d s c) ∙ e ∙ manifest_made_bytes name f t k ∙ made_place name f (behind_place f t k) in
+    let place = cut_front (manifest_front name) (digest_text d ++ (crlf ++ behind_place d s c)) (digest_text f ++ (crlf ++ behind_place f t k)) whole in
+    let behind = (same_digest d f (crlf ++ behind_place d s c) (crlf ++ behind_place f t k) x y place).1 in
+    let own = cut_front crlf (behind_place d s c) (behind_place f t k) behind in
     let digest = same_digest_field d f (subject_field s ++ made_end c) (subject_field t ++ made_end k) x y own in
     ap₂ replies.ManifestMade digest.0 (same_subject s t c k p q digest.1)
 
@@ -242,18 +231,14 @@ same_last name a b n m c k x y e =
     let whole = sym (page_bytes name a None 0 c) ∙ last_alike name a 0 n c ∙ e ∙ last_alike name b m 0 k ∙ page_bytes name b None 0 k in
     same_page_rest name a b c k x y (cut_front (status_line 200 ++ link_field name 0 None) (page_rest name a c) (page_rest name b k) whole)
 
--- the lines of a page through the name in its link
-abbrev link_front : List ℕ → List ℕ
-link_front name = status_line 200 ++ codes "Link: " ++ codes "<" ++ codes "/v2/" ++ name ++ codes "/tags/list?n="
-
 same_linked : (name : List ℕ) (a b : List (List ℕ)) (t u : List ℕ) (n m : ℕ) (c k : Bool) → AllByRecursion IsTag a → AllByRecursion IsTag b → IsTag t → IsTag u → n < 2 ^ 64 → m < 2 ^ 64
     → AreSpelledAlike name false c k (replies.Tags a (Some t) n) (replies.Tags b (Some u) m) → (a ≡ b) × (t ≡ u) × (n ≡ m)
 same_linked name a b t u n m c k x y p q small little e =
     let whole = sym (number_bytes name a t n c) ∙ e ∙ number_bytes name b u m k in
-    let digits = cut_front (link_front name) (decimal n ++ (38 ∷ behind_number name a t c)) (decimal m ++ (38 ∷ behind_number name b u k)) whole in
-    let number = same_ended 38 (decimal n) (decimal m) (behind_number name a t c) (behind_number name b u k) (decimal_free 38 n (omega arith)) (decimal_free 38 m (omega arith)) digits in
-    let last = cut_front (codes "last=") (t ++ (62 ∷ behind_tag name a c)) (u ++ (62 ∷ behind_tag name b k)) number.1 in
-    let tag = same_ended 62 t u (behind_tag name a c) (behind_tag name b k) (tag_free_of_end t p) (tag_free_of_end u q) last in
+    let digits = cut_front (number_front name) (decimal n ++ (38 ∷ behind_number t (page_rest name a c))) (decimal m ++ (38 ∷ behind_number u (page_rest name b k))) whole in
+    let number = same_ended 38 (decimal n) (decimal m) (behind_number t (page_rest name a c)) (behind_number u (page_rest name b k)) (decimal_free 38 n (omega arith)) (decimal_free 38 m (omega arith)) digits in
+    let last = cut_front (codes "last=") (t ++ (62 ∷ behind_tag (page_rest name a c))) (u ++ (62 ∷ behind_tag (page_rest name b k))) number.1 in
+    let tag = same_ended 62 t u (behind_tag (page_rest name a c)) (behind_tag (page_rest name b k)) (tag_free_of_end t p) (tag_free_of_end u q) last in
     let line = cut_front (codes "; rel=\"next\"") (crlf ++ page_rest name a c) (crlf ++ page_rest name b k) tag.1 in
     (same_page_rest name a b c k x y (cut_front crlf (page_rest name a c) (page_rest name b k) line), tag.0, decimal_injective n m small little number.0)
 

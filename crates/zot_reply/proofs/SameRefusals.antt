@@ -21,7 +21,7 @@ use Rattle.zot_spell.specs.Spelling.{body_lines, json_media, parts_of, rest_of, 
 use Rattle.zot_reply.proofs.CodeLemmas.{body_size, distinct_codes, has_size, high_status, one_code, own_is, own_of, range_status, size_small}
 use Rattle.zot_reply.proofs.CutLemmas.{cut_front, same_body, same_digest, same_status}
 use Rattle.zot_reply.proofs.DetailLemmas.{detail_back, missing_place, real_detail, unseen_kind, wanted_place}
-use Rattle.zot_reply.proofs.FoundLemmas.{behind_refusal, refusal_id_bytes}
+use Rattle.zot_reply.proofs.FoundLemmas.{behind_refusal, refusal_bytes}
 use Rattle.zot_reply.proofs.SameLemmas.{AreSpelledAlike, same_upload}
 use Rattle.zot_reply.specs.Reading.{IsReal, IsRealDetail, TellsMissing, detail_front, refusal_with}
 
@@ -108,10 +108,10 @@ told_details name code x y false c k other h g d f e = seen_kind code x y other 
 range_details : (name : List ℕ) (x y : Detail) (head c k : Bool) → SaysSession x → SaysSession y → IsRealDetail x → IsRealDetail y
     → AreSpelledAlike name head c k (refusal_with BlobUploadInvalid x) (refusal_with BlobUploadInvalid y) → AreDetailsAlike head x y
 range_details name (details.Session i n) (details.Session j m) true c k h g x y e =
-    let s = same_upload name 416 i j n m (behind_refusal i n true c) (behind_refusal j m true k) x.0 y.0 x.1 y.1 (sym (refusal_id_bytes name i n true c) ∙ e ∙ refusal_id_bytes name j m true k) in
+    let s = same_upload name 416 i j n m (behind_refusal i n true c) (behind_refusal j m true k) x.0 y.0 x.1 y.1 (sym (refusal_bytes name i n true c) ∙ e ∙ refusal_bytes name j m true k) in
     (s.0, s.1)
 range_details name (details.Session i n) (details.Session j m) false c k h g x y e =
-    let s = same_upload name 416 i j n m (behind_refusal i n false c) (behind_refusal j m false k) x.0 y.0 x.1 y.1 (sym (refusal_id_bytes name i n false c) ∙ e ∙ refusal_id_bytes name j m false k) in
+    let s = same_upload name 416 i j n m (behind_refusal i n false c) (behind_refusal j m false k) x.0 y.0 x.1 y.1 (sym (refusal_bytes name i n false c) ∙ e ∙ refusal_bytes name j m false k) in
     (s.0, s.1)
 range_details name (details.Session i n) said head c k h g x y e = absurd g
 range_details name detail said head c k h g x y e = absurd h

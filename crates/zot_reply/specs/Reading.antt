@@ -1,5 +1,5 @@
 -- Replies read back from their bytes.
-use Rattle.std.specs.Prelude.{◌≡◌, ◌≢◌, ℕ, ◌<◌, ◌^◌, ◌==◌, Bool, true, false, List, ◌++◌, length, Option, Some, None, IfSome, codes, [], ◌∷◌, slice_index, ⊤}
+use Rattle.std.specs.Prelude.{◌≡◌, ◌≢◌, ℕ, ◌<◌, ◌^◌, ◌==◌, Bool, true, false, List, ◌++◌, length, Option, Some, None, IfSome, MatchOption, codes, [], ◌∷◌, slice_index, ⊤}
 use Rattle.std.specs.List.{AllByRecursion}
 use Rattle.json.specs.Print.{quoted}
 use Rattle.serde_json.specs.Written.{comma_if}
@@ -145,6 +145,11 @@ detail_front code = codes "{\"errors\":[{\"code\":\"" ++ (code_text code ++ code
 -- the refusal of a request with this code
 abbrev pub refusal_with : Code → Detail → Reply
 refusal_with code detail = replies.Refused (status_of code) code detail
+
+-- bytes tell a detail of the kind that this code has: one with which they are the refusal with this code, where with any such detail they are it
+abbrev pub TellsDetail : Code → Bool → Bool → List ℕ → Option Detail → Type 0
+TellsDetail code head close bytes found = IfSome found (HasDetail code) × ((name : List ℕ) (detail : Detail) → IsRealDetail detail → HasDetail code detail
+    → bytes ≡ spelled (parts_of name (refusal_with code detail)) head close → MatchOption found ⊥ (λ told. bytes ≡ spelled (parts_of name (refusal_with code told)) head close))
 
 -- a page behind which none follows, and one behind which one does
 abbrev pub IsLastPage : Reply → Type 0

@@ -1,14 +1,13 @@
 //! Blobs that bytes may be.
-ghost use Rattle.std.specs.Prelude.{◌≡◌, ◌++◌, true, false, codes, IfOk};
-ghost use Rattle.zot_spell.specs.Fields.{status_line};
+ghost use Rattle.std.specs.Prelude.{true, false, IfOk};
 ghost use Rattle.zot_reply.specs.Reading.{Finds, IsBlob, IsBlobHead, IsBlobMade};
 
-use crate::finding::{confirm, find_body, find_digest, find_size, start_of};
+use crate::finding::{confirm, find_body, find_digest, find_size, place_front, start_of};
 use crate::reading::digest_behind;
 use std::alloc::{AllocError, Global};
 use zot_digest::Bytes;
 use zot_model::Reply;
-use zot_spell::{byte_media, push_status};
+use zot_spell::byte_media;
 
 /// The blob that bytes are, if they are one.
 pub fn read_blob(
@@ -62,23 +61,9 @@ pub fn read_blob_made(
 ) -> Result<Option<Reply>, AllocError>
     ensures { IfOk result (Finds IsBlobMade name.now false close bytes.now) }
 {
-    let front = blob_made_front(alloc, name)?;
+    let front = place_front(alloc, name, 201, "/blobs/")?;
     let Some(digest) = digest_behind(bytes, front.as_slice()) else {
         return Ok(None);
     };
     confirm(alloc, name, Reply::BlobMade { digest }, false, close, bytes)
-}
-
-// The reply of a blob that was stored, up to the digest in its place.
-fn blob_made_front(alloc: Global, name: &str) -> Result<Vec<u8>, AllocError>
-    ensures { IfOk result (λ front. front.items
-        ≡ status_line 201 ++ codes "Location: " ++ codes "/v2/" ++ name.now ++ codes "/blobs/") }
-{
-    let mut front = Vec::new(alloc);
-    push_status(&mut front, 201)?;
-    front.extend_from_slice(b"Location: ".as_slice())?;
-    front.extend_from_slice(b"/v2/".as_slice())?;
-    front.extend_from_slice(name.as_bytes())?;
-    front.extend_from_slice(b"/blobs/".as_slice())?;
-    Ok(front)
 }

@@ -76,15 +76,31 @@ fn find_differing(
     let Some(body) = find_error(alloc, bytes, close, Code::UpstreamMismatch)? else {
         return Ok(None);
     };
-    let front = wanted_front(alloc)?;
-    let Some(wanted) = digest_behind(body, front.as_slice()) else {
+    let Some(wanted) = find_wanted(alloc, body)? else {
         return Ok(None);
     };
-    let front = found_front(alloc, &wanted)?;
-    let Some(found) = digest_behind(body, front.as_slice()) else {
+    let Some(found) = find_found(alloc, body, &wanted)? else {
         return Ok(None);
     };
     Ok(Some((wanted, found)))
+}
+
+// The digest that was wanted, in such a body.
+fn find_wanted(alloc: Global, body: &[u8]) -> Result<Option<Digest>, AllocError>
+    ensures { IfOk result (λ found. (wanted other : List ℕ) → IsDigest wanted → IsDigest other
+        → body.now ≡ error_body UpstreamMismatch (details.Differ wanted other) → found ≡ Some wanted) }
+{
+    let front = wanted_front(alloc)?;
+    Ok(digest_behind(body, front.as_slice()))
+}
+
+// The digest that was found where this one was wanted, in such a body.
+fn find_found(alloc: Global, body: &[u8], wanted: &Digest) -> Result<Option<Digest>, AllocError>
+    ensures { IfOk result (λ found. (other : List ℕ) → IsDigest wanted.now → IsDigest other
+        → body.now ≡ error_body UpstreamMismatch (details.Differ wanted.now other) → found ≡ Some other) }
+{
+    let front = found_front(alloc, wanted)?;
+    Ok(digest_behind(body, front.as_slice()))
 }
 
 // The body of a refusal with this code, which has no fields of its own.

@@ -3,6 +3,7 @@ ghost use Rattle.std.specs.Prelude.{◌≡◌, ◌<◌, ◌++◌, ℕ, List, len
 ghost use Rattle.std.specs.Option.{option_copied};
 ghost use Rattle.zot_spell.specs.Fields.{status_line, digest_field, size_field, type_field};
 ghost use Rattle.zot_spell.specs.Spelling.{body_lines, HasStatus};
+ghost use Rattle.http.specs.StatusCode.{IsStatusCode};
 ghost use Rattle.zot_digest.specs.Digest.{IsDigest};
 ghost use Rattle.zot_reply.specs.Reading.{Confirms};
 
@@ -32,6 +33,26 @@ pub fn confirm(
     } else {
         Ok(None)
     }
+}
+
+/// The lines of a reply through the part of its place, as `/blobs/`, that stands between the repository's name and what the place names.
+pub fn place_front(
+    alloc: Global,
+    name: &str,
+    status: u16,
+    part: &str,
+) -> Result<Vec<u8>, AllocError>
+    requires { IsStatusCode status }
+    ensures { IfOk result (λ front. front.items
+        ≡ status_line status ++ codes "Location: " ++ codes "/v2/" ++ name.now ++ part.now) }
+{
+    let mut front = Vec::new(alloc);
+    push_status(&mut front, status)?;
+    front.extend_from_slice(b"Location: ".as_slice())?;
+    front.extend_from_slice(b"/v2/".as_slice())?;
+    front.extend_from_slice(name.as_bytes())?;
+    front.extend_from_slice(part.as_bytes())?;
+    Ok(front)
 }
 
 /// The digest of a reply whose only own field names it.

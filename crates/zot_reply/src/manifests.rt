@@ -3,13 +3,14 @@ ghost use Rattle.std.specs.Prelude.{◌≡◌, ◌++◌, ℕ, List, Some, true, 
 ghost use Rattle.zot_reply.specs.Reading.{Finds, IsManifest, IsManifestHead};
 ghost use Rattle.zot_media.specs.declared.media.Media.{Media};
 ghost use Rattle.zot_media.specs.Media.{media_text};
-ghost use Rattle.zot_spell.specs.Fields.{type_field};
+ghost use Rattle.zot_digest.specs.Digest.{IsDigest};
+ghost use Rattle.zot_spell.specs.Fields.{digest_field, status_line, type_field};
 
 use crate::finding::{confirm, find_body, find_digest, find_size, start_of};
 use crate::reading::text_behind;
 use std::alloc::{AllocError, Global};
 use std::str;
-use zot_digest::Bytes;
+use zot_digest::{Bytes, Digest};
 use zot_media::{Media, media_of};
 use zot_model::Reply;
 
@@ -22,13 +23,11 @@ pub fn read_manifest(
 ) -> Result<Option<Reply>, AllocError>
     ensures { IfOk result (Finds IsManifest name.now false close bytes.now) }
 {
-    let Some(digest) = find_digest(alloc, bytes)? else {
+    let Some(kind) = find_kind(alloc, bytes)? else {
         return Ok(None);
     };
+    let (digest, media) = kind;
     let start = start_of(alloc, &digest)?;
-    let Some(media) = find_media(alloc, bytes, start.as_slice())? else {
-        return Ok(None);
-    };
     let Some(body) = find_body(alloc, bytes, start.as_slice(), 200, media.text(), close)? else {
         return Ok(None);
     };
@@ -49,13 +48,11 @@ pub fn read_manifest_head(
 ) -> Result<Option<Reply>, AllocError>
     ensures { IfOk result (Finds IsManifestHead name.now true close bytes.now) }
 {
-    let Some(digest) = find_digest(alloc, bytes)? else {
+    let Some(kind) = find_kind(alloc, bytes)? else {
         return Ok(None);
     };
+    let (digest, media) = kind;
     let start = start_of(alloc, &digest)?;
-    let Some(media) = find_media(alloc, bytes, start.as_slice())? else {
-        return Ok(None);
-    };
     let Some(size) = find_size(alloc, bytes, start.as_slice(), media.text())? else {
         return Ok(None);
     };
@@ -65,6 +62,21 @@ pub fn read_manifest_head(
         size,
     };
     confirm(alloc, name, reply, true, close, bytes)
+}
+
+// The digest and the media of a manifest.
+fn find_kind(alloc: Global, bytes: &[u8]) -> Result<Option<(Digest, Media)>, AllocError>
+    ensures { IfOk result (λ found. (digest : List ℕ) (media : Media) (rest : List ℕ) → IsDigest digest
+        → bytes.now ≡ status_line 200 ++ (digest_field digest ++ (type_field (Some (media_text media)) ++ rest)) → found ≡ Some (digest, media)) }
+{
+    let Some(digest) = find_digest(alloc, bytes)? else {
+        return Ok(None);
+    };
+    let start = start_of(alloc, &digest)?;
+    let Some(media) = find_media(alloc, bytes, start.as_slice())? else {
+        return Ok(None);
+    };
+    Ok(Some((digest, media)))
 }
 
 // The media that stand behind the start of a reply.

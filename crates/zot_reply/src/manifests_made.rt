@@ -1,9 +1,10 @@
 //! Replies of manifests that were stored, which bytes may be.
-ghost use Rattle.std.specs.Prelude.{◌≡◌, ◌++◌, false, codes, IfOk};
-ghost use Rattle.zot_spell.specs.Fields.{status_line, digest_field, location_field, manifest_place};
+ghost use Rattle.std.specs.Prelude.{◌≡◌, ◌++◌, List, ℕ, Some, false, codes, IfOk};
+ghost use Rattle.zot_digest.specs.Digest.{IsDigest};
+ghost use Rattle.zot_spell.specs.Fields.{status_line, digest_field, location_field, manifest_place, subject_field};
 ghost use Rattle.zot_reply.specs.Reading.{Finds, IsManifestMade, IsWithSubject, IsWithoutSubject};
 
-use crate::finding::confirm;
+use crate::finding::{confirm, place_front};
 use crate::reading::digest_behind;
 use std::alloc::{AllocError, Global};
 use zot_digest::Digest;
@@ -34,8 +35,7 @@ fn read_without_subject(
 ) -> Result<Option<Reply>, AllocError>
     ensures { IfOk result (Finds IsWithoutSubject name.now false close bytes.now) }
 {
-    let front = manifest_made_front(alloc, name)?;
-    let Some(digest) = digest_behind(bytes, front.as_slice()) else {
+    let Some(digest) = find_made(alloc, name, bytes)? else {
         return Ok(None);
     };
     let reply = Reply::ManifestMade {
@@ -54,12 +54,10 @@ fn read_with_subject(
 ) -> Result<Option<Reply>, AllocError>
     ensures { IfOk result (Finds IsWithSubject name.now false close bytes.now) }
 {
-    let front = manifest_made_front(alloc, name)?;
-    let Some(digest) = digest_behind(bytes, front.as_slice()) else {
+    let Some(digest) = find_made(alloc, name, bytes)? else {
         return Ok(None);
     };
-    let front = subject_front(alloc, name, &digest)?;
-    let Some(subject) = digest_behind(bytes, front.as_slice()) else {
+    let Some(subject) = find_subject(alloc, name, &digest, bytes)? else {
         return Ok(None);
     };
     let reply = Reply::ManifestMade {
@@ -69,21 +67,31 @@ fn read_with_subject(
     confirm(alloc, name, reply, false, close, bytes)
 }
 
-// The reply of a manifest that was stored, up to the digest in its place.
-fn manifest_made_front(alloc: Global, name: &str) -> Result<Vec<u8>, AllocError>
-    ensures { IfOk result (λ front. front.items
-        ≡ status_line 201 ++ codes "Location: " ++ codes "/v2/" ++ name.now ++ codes "/manifests/") }
+// The digest in the place of a manifest that was stored.
+fn find_made(alloc: Global, name: &str, bytes: &[u8]) -> Result<Option<Digest>, AllocError>
+    ensures { IfOk result (λ found. (digest rest : List ℕ) → IsDigest digest
+        → bytes.now ≡ status_line 201 ++ (location_field (manifest_place name.now digest) ++ rest) → found ≡ Some digest) }
 {
-    let mut front = Vec::new(alloc);
-    push_status(&mut front, 201)?;
-    front.extend_from_slice(b"Location: ".as_slice())?;
-    front.extend_from_slice(b"/v2/".as_slice())?;
-    front.extend_from_slice(name.as_bytes())?;
-    front.extend_from_slice(b"/manifests/".as_slice())?;
-    Ok(front)
+    let front = place_front(alloc, name, 201, "/manifests/")?;
+    Ok(digest_behind(bytes, front.as_slice()))
 }
 
-// The same up to its subject.
+// The subject of a manifest that was stored under this digest.
+fn find_subject(
+    alloc: Global,
+    name: &str,
+    digest: &Digest,
+    bytes: &[u8],
+) -> Result<Option<Digest>, AllocError>
+    ensures { IfOk result (λ found. (subject rest : List ℕ) → IsDigest subject
+        → bytes.now ≡ status_line 201 ++ (location_field (manifest_place name.now digest.now) ++ (digest_field digest.now ++ (subject_field (Some subject) ++ rest)))
+        → found ≡ Some subject) }
+{
+    let front = subject_front(alloc, name, digest)?;
+    Ok(digest_behind(bytes, front.as_slice()))
+}
+
+// The lines of a manifest that was stored up to its subject.
 fn subject_front(alloc: Global, name: &str, digest: &Digest) -> Result<Vec<u8>, AllocError>
     ensures { IfOk result (λ front. front.items
         ≡ status_line 201 ++ location_field (manifest_place name.now digest.now) ++ digest_field digest.now ++ codes "OCI-Subject: ") }

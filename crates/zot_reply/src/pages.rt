@@ -1,5 +1,5 @@
 //! Pages of tags that bytes may be.
-ghost use Rattle.std.specs.Prelude.{◌≡◌, ◌<◌, ◌++◌, ◌∷◌, [], ℕ, Bool, List, length, Some, None, true, false, codes, string_bytes, IfOk, IfSome, MatchOption};
+ghost use Rattle.std.specs.Prelude.{◌≡◌, ◌<◌, ◌^◌, ◌++◌, ◌∷◌, [], ℕ, Bool, List, length, Some, None, true, false, codes, string_bytes, IfOk, IfSome, MatchOption};
 ghost use Rattle.std.specs.Fmt.{decimal};
 ghost use Rattle.std.specs.List.{AllByRecursion};
 ghost use Rattle.std.specs.Option.{option_copied};
@@ -64,12 +64,7 @@ fn read_linked_page(
 ) -> Result<Option<Reply>, AllocError>
     ensures { IfOk result (Finds IsLinkedPage name.now false close bytes.now) }
 {
-    let front = number_front(alloc, name)?;
-    let Some(n) = number_behind(bytes, front.as_slice(), b'&') else {
-        return Ok(None);
-    };
-    let front = tag_front(alloc, name, n)?;
-    let Some(tag) = find_tag(alloc, bytes, front.as_slice())? else {
+    let Some((n, tag)) = find_link(alloc, name, bytes)? else {
         return Ok(None);
     };
     let next = Some(tag);
@@ -89,6 +84,30 @@ fn page_start(alloc: Global, name: &str, n: u64, next: &Option<Tag>) -> Result<V
     push_status(&mut start, 200)?;
     push_link(alloc, &mut start, name, n, next)?;
     Ok(start)
+}
+
+// The number and the tag of a page's link.
+fn find_link(alloc: Global, name: &str, bytes: &[u8]) -> Result<Option<(u64, Tag)>, AllocError>
+    ensures { IfOk result (λ found. (n : ℕ) (tag rest : List ℕ) → n < 2 ^ 64 → IsTag tag
+        → bytes.now ≡ status_line 200 ++ (link_field name.now n (Some tag) ++ rest) → found ≡ Some (n, tag)) }
+{
+    let Some(n) = find_number(alloc, name, bytes)? else {
+        return Ok(None);
+    };
+    let front = tag_front(alloc, name, n)?;
+    let Some(tag) = find_tag(alloc, bytes, front.as_slice())? else {
+        return Ok(None);
+    };
+    Ok(Some((n, tag)))
+}
+
+// The number of a page's link.
+fn find_number(alloc: Global, name: &str, bytes: &[u8]) -> Result<Option<u64>, AllocError>
+    ensures { IfOk result (λ found. (n : ℕ) (tag rest : List ℕ) → n < 2 ^ 64
+        → bytes.now ≡ status_line 200 ++ (link_field name.now n (Some tag) ++ rest) → found ≡ Some n) }
+{
+    let front = number_front(alloc, name)?;
+    Ok(number_behind(bytes, front.as_slice(), b'&'))
 }
 
 // The lines of a page up to the number of its link.

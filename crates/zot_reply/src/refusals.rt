@@ -1,6 +1,6 @@
 //! Refusals that bytes may be.
-ghost use Rattle.std.specs.Prelude.{true, false, IfOk, ◌≢◌};
-ghost use Rattle.zot_reply.specs.Reading.{Finds, IsRefusedAs, IsRefusedAmong};
+ghost use Rattle.std.specs.Prelude.{◌≢◌, IfOk};
+ghost use Rattle.zot_reply.specs.Reading.{Finds, IsRefusedAs, IsRefusedAmong, TellsDetail};
 ghost use Rattle.zot_digest.specs.Digest.{IsDigest};
 ghost use Rattle.zot_model.specs.declared.code.Code.TheVariants.{BlobUploadInvalid};
 ghost use Rattle.zot_model.specs.Fits.{HasDetail};
@@ -46,46 +46,37 @@ pub fn read_refusal(
 {
     match code {
         Code::BlobUploadInvalid => read_range_refusal(alloc, name, bytes, head, close),
-        _ => read_told_refusal(alloc, name, bytes, head, close, code),
+        _ => {
+            let Some(detail) = told_detail(alloc, bytes, head, close, code)? else {
+                return Ok(None);
+            };
+            let status = status_of_code(code);
+            let reply = Reply::Refused {
+                status,
+                code,
+                detail,
+            };
+            confirm(alloc, name, reply, head, close, bytes)
+        }
     }
 }
 
-// The same of a code that isn't told with an upload.
-fn read_told_refusal(
+// A detail with which bytes are the refusal with this code, where they are one. To HEAD no body is shown, so there each detail of the code's kind has the same spelling.
+fn told_detail(
     alloc: Global,
-    name: &str,
     bytes: &[u8],
     head: bool,
     close: bool,
     code: Code,
-) -> Result<Option<Reply>, AllocError>
+) -> Result<Option<Detail>, AllocError>
     requires { code ≢ BlobUploadInvalid }
-    ensures { IfOk result (Finds (IsRefusedAs code) name.now head close bytes.now) }
+    ensures { IfOk result (TellsDetail code head close bytes.now) }
 {
     if head {
-        read_unseen_refusal(alloc, name, bytes, close, code)
+        Ok(Some(some_detail(code)))
     } else {
-        read_seen_refusal(alloc, name, bytes, close, code)
+        find_detail(alloc, bytes, close, code)
     }
-}
-
-// The same where the body isn't shown: each digest has the same spelling.
-fn read_unseen_refusal(
-    alloc: Global,
-    name: &str,
-    bytes: &[u8],
-    close: bool,
-    code: Code,
-) -> Result<Option<Reply>, AllocError>
-    requires { code ≢ BlobUploadInvalid }
-    ensures { IfOk result (Finds (IsRefusedAs code) name.now true close bytes.now) }
-{
-    let reply = Reply::Refused {
-        status: status_of_code(code),
-        code,
-        detail: some_detail(code),
-    };
-    confirm(alloc, name, reply, true, close, bytes)
 }
 
 // A detail of the kind that this code has.
@@ -109,26 +100,4 @@ fn some_digest() -> Digest
     ensures { IsDigest result }
 {
     Digest::from_bytes([0; 32])
-}
-
-// The same where the body is shown.
-fn read_seen_refusal(
-    alloc: Global,
-    name: &str,
-    bytes: &[u8],
-    close: bool,
-    code: Code,
-) -> Result<Option<Reply>, AllocError>
-    requires { code ≢ BlobUploadInvalid }
-    ensures { IfOk result (Finds (IsRefusedAs code) name.now false close bytes.now) }
-{
-    let Some(detail) = find_detail(alloc, bytes, close, code)? else {
-        return Ok(None);
-    };
-    let reply = Reply::Refused {
-        status: status_of_code(code),
-        code,
-        detail,
-    };
-    confirm(alloc, name, reply, false, close, bytes)
 }

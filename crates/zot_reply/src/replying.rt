@@ -1,10 +1,11 @@
 //! Replies read back from their bytes.
-ghost use Rattle.std.specs.Prelude.{◌≡◌, ℕ, List, IfOk, Err, MatchResult, false};
+ghost use Rattle.std.specs.Prelude.{◌≡◌, ℕ, List, Some, IfOk, Err, MatchResult, false};
 ghost use Rattle.zot_model.specs.Fits.{FitsCall, IsSuccessOf};
 ghost use Rattle.zot_reply.specs.declared.read_reply_error.ReadReplyError.TheVariants.{Bad, NoMemory};
 ghost use Rattle.zot_model.specs.declared.call.Call.TheVariants as calls;
 ghost use Rattle.zot_model.specs.declared.reply.Reply.{Reply};
 ghost use Rattle.zot_spell.specs.Alike.{AreAlike};
+ghost use Rattle.zot_spell.specs.Spelling.{name_in};
 ghost use Rattle.zot_reply.specs.Reading.{Finds, IsReal, IsTaken, Spells, is_head};
 
 use crate::blobs::{read_blob, read_blob_head, read_blob_made};
@@ -29,26 +30,26 @@ pub fn read_reply(alloc: Global, request: &Request, bytes: &[u8]) -> Result<Repl
     ensures alike { (reply : Reply) → IsReal reply → Spells request.now reply bytes.now
         → MatchResult result (λ found. AreAlike (is_head request.now.call) reply found) (λ error. error ≡ NoMemory) }
 {
-    let name = name_of(Some(request));
-    if let Some(reply) = read_answer(alloc, name, &request.call, bytes, false)? {
+    if let Some(reply) = read_answer(alloc, request, bytes, false)? {
         return Ok(reply);
     }
-    match read_answer(alloc, name, &request.call, bytes, true)? {
+    match read_answer(alloc, request, bytes, true)? {
         Some(reply) => Ok(reply),
         None => Err(ReadReplyError::Bad),
     }
 }
 
-// The answer to a call that bytes are, if they are one.
+// The answer to a request that bytes are, if they are one.
 fn read_answer(
     alloc: Global,
-    name: &str,
-    call: &Call,
+    request: &Request,
     bytes: &[u8],
     close: bool,
 ) -> Result<Option<Reply>, AllocError>
-    ensures { IfOk result (Finds (FitsCall call.now) name.now (is_head call.now) close bytes.now) }
+    ensures { IfOk result (Finds (FitsCall request.now.call) (name_in (Some request.now)) (is_head request.now.call) close bytes.now) }
 {
+    let name = name_of(Some(request));
+    let call = &request.call;
     if let Some(reply) = read_success(alloc, name, call, bytes, close)? {
         return Ok(Some(reply));
     }
