@@ -7,10 +7,10 @@ use std::process::ExitCode;
 
 /// Answers each case of standard input and prints a line for it: `NAME: ok`, or `NAME: wanted WANTED, came CAME`. A case
 /// for which `answer` fails is wrong, and so is a line that is no case or has the name of one before it. The last line
-/// is `N cases, M wrong`. The status is 0 where there are cases and none is wrong.
+/// is `N cases, M wrong`. What is wrong is told on standard error too, which the gate shows. The status is 0 where there are cases and none is wrong.
 pub fn run<R, F>(rt: &R, answer: F) -> io::Result<ExitCode>
 where
-    R: Input + Print + AllocGlobal,
+    R: Input + Print + Eprint + AllocGlobal,
     F: Fn(&Case) -> anyhow::Result<String>,
     requires { F.IsAlwaysCallable answer }
 {
@@ -28,10 +28,12 @@ where
             Some(case) if names.insert(case.name)? => report(rt, &case, answer(&case))?,
             Some(case) => {
                 println!(rt; "{}: a second case of this name", case.name)?;
+                eprintln!(rt; "{}: a second case of this name", case.name)?;
                 false
             }
             None => {
                 println!(rt; "{line}: no case")?;
+                eprintln!(rt; "{line}: no case")?;
                 false
             }
         };
@@ -48,7 +50,11 @@ where
 }
 
 // Prints a case's line, and tells whether what came is what is wanted.
-fn report(rt: &impl Print, case: &Case, came: anyhow::Result<String>) -> io::Result<bool> {
+fn report(
+    rt: &(impl Print + Eprint),
+    case: &Case,
+    came: anyhow::Result<String>,
+) -> io::Result<bool> {
     let Case { name, wanted, .. } = case;
     match came {
         Ok(came) if came.as_str() == *wanted => {
@@ -57,10 +63,12 @@ fn report(rt: &impl Print, case: &Case, came: anyhow::Result<String>) -> io::Res
         }
         Ok(came) => {
             println!(rt; "{name}: wanted {wanted}, came {came}")?;
+            eprintln!(rt; "{name}: wanted {wanted}, came {came}")?;
             Ok(false)
         }
         Err(error) => {
             println!(rt; "{name}: wanted {wanted}, failed: {error:#}")?;
+            eprintln!(rt; "{name}: wanted {wanted}, failed: {error:#}")?;
             Ok(false)
         }
     }
