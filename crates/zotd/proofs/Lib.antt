@@ -1,4 +1,1 @@
 pub mod ArgumentLemmas
-pub mod EntryLemmas
-pub mod NoteLemmas
-pub mod WordLemmas

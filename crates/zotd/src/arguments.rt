@@ -1,5 +1,5 @@
-//! The program's arguments and words.
-ghost use Rattle.std.specs.Prelude.{◌≡◌, IfOk, drop};
+//! The program's arguments.
+ghost use Rattle.std.specs.Prelude.{◌≡◌, IfOk};
 ghost use Rattle.std.specs.Vec.Iter.{into_iter_items};
 
 use std::alloc::{AllocError, Global};
@@ -9,16 +9,6 @@ use std::{env, io};
 /// The program's arguments, of which its name is the first. They are refused where memory runs out, or where one of them isn't UTF-8.
 pub fn arguments(rt: &HostRuntime) -> io::Result<Vec<String>> {
     Ok(all_of(rt.alloc(), env::args(rt)?)?)
-}
-
-/// The program's words: its arguments behind its name.
-pub fn behind_name(args: &[String]) -> &[String]
-    ensures { result.now ≡ drop 1 args.now }
-{
-    match args {
-        [_, words @ ..] => words,
-        [] => args,
-    }
 }
 
 // All that are left of some arguments.

@@ -2,17 +2,10 @@
 #![tactic(auto)]
 
 mod arguments;
-mod notes;
-mod running;
-mod status;
-mod table;
-#[cfg(test)]
-mod tests;
 
-use crate::arguments::{arguments, behind_name};
-use crate::running::{run_unread, run_waiting};
-use std::io::ErrorKind;
+use crate::arguments::arguments;
 use std::process::ExitCode;
+use zot_commands::run_given;
 use zot_outside::{ReaderSource, SystemClock, WriterSink};
 
 fn main(rt: HostRuntime) -> ExitCode {
@@ -20,16 +13,14 @@ fn main(rt: HostRuntime) -> ExitCode {
     let mut output = WriterSink::new(rt.stdout());
     let mut notes = WriterSink::new(rt.stderr());
     let mut clock = SystemClock::new(rt);
-    let status = match arguments(&rt) {
-        Ok(args) => run_waiting(
-            rt.alloc(),
-            behind_name(args.as_slice()),
-            &mut clock,
-            &mut input,
-            &mut output,
-            &mut notes,
-        ),
-        Err(error) => run_unread(error.kind() == ErrorKind::OutOfMemory, &mut notes),
-    };
+    let given = arguments(&rt);
+    let status = run_given(
+        rt.alloc(),
+        given,
+        &mut clock,
+        &mut input,
+        &mut output,
+        &mut notes,
+    );
     ExitCode::from(status.code)
 }

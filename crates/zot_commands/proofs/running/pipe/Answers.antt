@@ -1,8 +1,8 @@
 use Rattle.std.proofs.Common.{subst}
 use Rattle.zot_model.specs.State.{RowState}
 use Rattle.zot_session.specs.Session.{Served}
-use Rattle.zotd.proofs.running.pipe.Goals as goal
-use Rattle.zotd.specs.Entries.{Records}
+use Rattle.zot_commands.proofs.running.pipe.Goals as goal
+use Rattle.zot_commands.specs.Entries.{Records}
 
 pub returns-clause-served : goal.returns-clause-served
 returns-clause-served g c = record {

@@ -1,6 +1,6 @@
 use Rattle.zot_session.proofs.SessionLemmas.{served_map}
-use Rattle.zotd.proofs.EntryLemmas.{conducts_run}
-use Rattle.zotd.proofs.table.TableAnswers.serve.Goals as goal
+use Rattle.zot_commands.proofs.EntryLemmas.{conducts_run}
+use Rattle.zot_commands.proofs.table.TableAnswers.serve.Goals as goal
 
 pub returns-clause-same_table : goal.returns-clause-same_table
 returns-clause-same_table g c =

@@ -3,7 +3,7 @@ ghost use Rattle.std.specs.Prelude.{[], ◌∷◌, ◌++◌, OnOk, OnErr, decima
 ghost use Rattle.zot_outside.specs.Faults.{HasCause};
 ghost use Rattle.zot_outside.specs.Streams.{Appends};
 ghost use Rattle.zot_session.specs.Session.{WritesPart};
-ghost use Rattle.zotd.specs.Program.{Notes, line, line_end, line_of};
+ghost use Rattle.zot_commands.specs.Program.{Notes, line, line_end, line_of};
 
 use itoa::Buffer;
 use zot_outside::{Failed, Sink};

@@ -1,7 +1,7 @@
 use Rattle.std.proofs.Common.{refl}
-use Rattle.zotd.proofs.NoteLemmas.{on_err, part_behind, part_of_both, whole_err}
-use Rattle.zotd.proofs.notes.write_line.Goals as goal
-use Rattle.zotd.specs.Program.{line, line_end}
+use Rattle.zot_commands.proofs.NoteLemmas.{on_err, part_behind, part_of_both, whole_err}
+use Rattle.zot_commands.proofs.notes.write_line.Goals as goal
+use Rattle.zot_commands.specs.Program.{line, line_end}
 
 pub returns-in_err-write_all-clause-err : goal.returns-in_err-write_all-clause-err
 unfolding line

@@ -4,7 +4,7 @@ ghost use Rattle.zot_session.specs.Ends.{EndsAs, HasFailed};
 ghost use Rattle.zot_outside.specs.Faults.{Rose};
 ghost use Rattle.zot_session.specs.Session.{Served};
 ghost use Rattle.zot_session.specs.declared.end.End.TheVariants as ends;
-ghost use Rattle.zotd.specs.Entries.{Records, StaysAt};
+ghost use Rattle.zot_commands.specs.Entries.{Records, StaysAt};
 
 use std::alloc::Global;
 use zot_model::{Reply, Request};
@@ -21,7 +21,7 @@ struct TableAnswers<'a, T: Clock> {
 
 impl<T: Clock> Answers for TableAnswers<'_, T> {
     ghost use Rattle.std.specs.Prelude.{◌≡◌};
-    ghost use Rattle.zotd.specs.Entries.{AnswersOver, StaysAt};
+    ghost use Rattle.zot_commands.specs.Entries.{AnswersOver, StaysAt};
 
     ghost answers = { λ old request reply new. AnswersOver request.name (T.moment old.clock.now) old.table.now request reply new.table.now
         × StaysAt (T.moment old.clock.now) (T.moment new.clock.now)

@@ -1,8 +1,8 @@
 -- The words of the program.
-use Rattle.std.proofs.Common.{◌≡◌, ℕ, ◌<◌, ◌≤◌, arith, Bool, true, List, [], ◌∷◌, length, map, sym, ap, ◌∙◌, slice_index_or, String, Global, string_bytes}
+use Rattle.std.proofs.Common.{◌≡◌, ℕ, ◌<◌, ◌≤◌, arith, Bool, false, refl, true, List, [], ◌∷◌, length, map, sym, ap, ◌∙◌, slice_index_or, String, Global, string_bytes}
 use Rattle.std.specs.Str.{bytes_eq}
 use Rattle.std.proofs.lemmas.Slice.Eq.{bytes_eq-Decides}
-use Rattle.zotd.specs.Program.{pipe_words}
+use Rattle.zot_commands.specs.Program.{pipe_words}
 
 head_of : (first : List ℕ) (rest : List (List ℕ)) (other : List ℕ) → first ∷ rest ≡ other ∷ [] → first ≡ other
 head_of first rest other h = cc h
@@ -19,3 +19,8 @@ one_word (first ∷ []) word text b some few is text_is b_is =
       λ h. b_is ∙ decides.1 (same ∙ head_of (string_bytes first) [] (112 ∷ 105 ∷ 112 ∷ 101 ∷ []) h),
     )
 one_word (first ∷ second ∷ more) word text b some few is text_is b_is = absurd (omega arith)
+
+-- a test that isn't true is false
+pub false_unless : (b : Bool) → ¬ (b ≡ true) → b ≡ false
+false_unless true h = absurd (h refl)
+false_unless false h = refl

@@ -2,8 +2,8 @@ use Rattle.std.proofs.Common.{[], ◌∷◌, ◌++◌, refl, sym, ap, ◌∙◌,
 use Rattle.std.specs.Fmt.{decimal}
 use Rattle.zot_outside.proofs.StreamLemmas.{Appends-append}
 use Rattle.zot_outside.specs.Streams.{Appends}
-use Rattle.zotd.proofs.NoteLemmas.{on_err, part_behind, part_of_both, whole_err}
-use Rattle.zotd.proofs.notes.write_number.Goals as goal
+use Rattle.zot_commands.proofs.NoteLemmas.{on_err, part_behind, part_of_both, whole_err}
+use Rattle.zot_commands.proofs.notes.write_number.Goals as goal
 
 pub returns-in_err-write_all-clause-err : goal.returns-in_err-write_all-clause-err
 returns-in_err-write_all-clause-err g c = whole_err _ _ (part_of_both _ _ (32 ∷ []) (decimal c.args.n ++ 10 ∷ []) _ refl c.in_err-write_all.ensures.err)

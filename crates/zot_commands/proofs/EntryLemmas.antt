@@ -8,7 +8,7 @@ use Rattle.zot_model.specs.History.{Entry, Run, Step}
 use Rattle.zot_model.specs.Plain.{MayAnswer}
 use Rattle.zot_model.specs.State.{Becomes, RepoState, RowState, repo_at}
 use Rattle.zot_session.specs.Session.{Conducts, Exchange, answered, declined}
-use Rattle.zotd.specs.Entries.{AnswersOver, AreEntries, IsAt, IsEntry, Records, StandsBefore, StaysAt, entry_of}
+use Rattle.zot_commands.specs.Entries.{AnswersOver, AreEntries, IsAt, IsEntry, Records, StandsBefore, StaysAt, entry_of}
 
 named_faults : (old new : RowState) (moment : ℕ) (name : Option (List ℕ)) (call : Call) (reply : Reply)
     → IsSomeAnd name (λ n. (repo : RepoState) × Becomes old n repo new × MayAnswer moment (repo_at old n) call reply repo) → new.faults ≡ old.faults

@@ -1,6 +1,8 @@
 -- The program's words, what a command did, its status and its line on notes.
-use Rattle.std.specs.Prelude.{◌≡◌, ℕ, List, [], ◌∷◌, ◌++◌, Option, Some, None, IfSome, ◌⊎◌, codes}
+use Rattle.std.specs.Prelude.{◌≡◌, ◌≢◌, ℕ, List, [], ◌∷◌, ◌++◌, Option, Some, None, IfSome, ◌⊎◌, codes}
 use Rattle.std.specs.Fmt.{decimal}
+use Rattle.std.specs.declared.io.ErrorKind.{ErrorKind}
+use Rattle.std.specs.declared.io.ErrorKind.TheVariants.{OutOfMemory}
 use Rattle.zot_model.specs.State.{RowState, empty_row}
 use Rattle.zot_session.specs.declared.end.End.{End}
 use Rattle.zot_session.specs.declared.end.End.TheVariants as ends
@@ -8,7 +10,7 @@ use Rattle.zot_session.specs.Ends.{EndsAs, HasFailed}
 use Rattle.zot_outside.specs.Faults.{Rose}
 use Rattle.zot_outside.specs.Streams.{Appends}
 use Rattle.zot_session.specs.Session.{Served, WritesPart}
-use Rattle.zotd.specs.Entries.{Records}
+use Rattle.zot_commands.specs.Entries.{Records}
 
 -- the words of `pipe`
 unfoldable pub pipe_words : List (List ℕ)
@@ -61,3 +63,17 @@ pub record Pipes (told : Option ℕ) (end : End) (left_before left_after held_be
   pub table : RowState
   pub served : Served (λ exchanges. Records told empty_row exchanges table) end left_before left_after held_before held_after
   pub of_bytes : ¬ HasFailed end → IfSome left_before (λ bytes. EndsAs bytes end)
+
+-- `pipe` was run for these words: a connection was served, and the status and the note are those of its end
+abbrev pub RunsPipe : List (List ℕ) → Option ℕ → ℕ → Option (List ℕ) → Option (List ℕ) → Option (List ℕ) → Option (List ℕ) → (List ℕ → Type 0) → Type 0
+RunsPipe words told code left_before left_after held_before held_after Noted = words ≡ pipe_words → (end : End) × Pipes told end left_before left_after held_before held_after × (code ≡ status_of end) × Noted (line_of end)
+
+-- words that fit no command were refused, and nothing but the note was touched
+abbrev pub RefusesWords : List (List ℕ) → ℕ → Type 0 → (List ℕ → Type 0) → Type 0
+RefusesWords words code Untouched Noted = words ≢ pipe_words → (code ≡ words_status) × Untouched × Noted words_line
+
+-- words that couldn't be read for an error of this kind were refused, and nothing but the note was touched: memory ran out, or they fit no command, since no command has words that are no text
+pub record RefusesUnread (kind : ErrorKind) (code : ℕ) (Untouched : Type 0) (Noted : List ℕ → Type 0) : Type 0 where
+  pub memory : kind ≡ OutOfMemory → (code ≡ status_of ends.NoMemory) × Noted (line_of ends.NoMemory)
+  pub text : kind ≢ OutOfMemory → (code ≡ words_status) × Noted words_line
+  pub untouched : Untouched
