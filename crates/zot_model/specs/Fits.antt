@@ -14,6 +14,7 @@ use Rattle.zot_model.specs.declared.row.RowCall.{RowCall}
 use Rattle.zot_model.specs.declared.row.RowCall.TheVariants.{Ask}
 use Rattle.zot_model.specs.declared.row.RowReply.{RowReply}
 use Rattle.zot_model.specs.declared.row.RowReply.TheVariants as answers
+pub use Rattle.zot_model.specs.Codes.{HasDetail, IsDeclinedAs, SaysDiffer, SaysMethods, SaysMissing, SaysNothing, SaysSession, status_of}
 
 -- the code is one of these
 abbrev pub IsAmong : List Code → Code → Type 0
@@ -53,64 +54,6 @@ codes_of (calls.HeadManifest reference) = manifest_codes
 codes_of (calls.DeleteManifest reference) = ManifestUnknown ∷ common_codes
 codes_of (calls.Tags n last) = NameUnknown ∷ common_codes
 codes_of (calls.Referrers digest filter) = common_codes
-
--- the status of a refused request (RFC 9110, section 15)
-abbrev pub status_of : Code → ℕ
-status_of BlobUnknown = 404
-status_of BlobUploadInvalid = 416
-status_of BlobUploadUnknown = 404
-status_of DigestInvalid = 400
-status_of ManifestBlobUnknown = 400
-status_of ManifestInvalid = 400
-status_of ManifestUnknown = 404
-status_of NameInvalid = 400
-status_of NameUnknown = 404
-status_of SizeInvalid = 413
-status_of Unsupported = 405
-status_of TooManyRequests = 429
-status_of HeadInvalid = 400
-status_of HeadTooLong = 431
-status_of StorageFault = 500
-status_of UpstreamFault = 502
-status_of UpstreamMismatch = 502
-status_of UpstreamIncomplete = 502
-status_of UpstreamInvalid = 502
-status_of UpstreamTooLarge = 502
-status_of PeerFault = 502
-status_of NoMemory = 503
-status_of HopRefused = 508
-status_of NotBuilt = 501
-
--- the kinds of what a refusal says beside its code
-abbrev pub SaysNothing : Detail → Type 0
-SaysNothing details.None = ⊤
-SaysNothing _ = ⊥
-
-abbrev pub SaysMissing : Detail → Type 0
-SaysMissing (details.Missing digest) = ⊤
-SaysMissing _ = ⊥
-
-abbrev pub SaysDiffer : Detail → Type 0
-SaysDiffer (details.Differ wanted found) = ⊤
-SaysDiffer _ = ⊥
-
-abbrev pub SaysSession : Detail → Type 0
-SaysSession (details.Session id length) = ⊤
-SaysSession _ = ⊥
-
-abbrev pub SaysMethods : Detail → Type 0
-SaysMethods (details.Allow which) = ⊤
-SaysMethods _ = ⊥
-
--- what a refused request is told beside its code: a blob that is referenced may be read all the same
-abbrev pub HasDetail : Code → Detail → Type 0
-HasDetail BlobUploadInvalid detail = SaysSession detail
-HasDetail ManifestBlobUnknown detail = SaysMissing detail
-HasDetail Unsupported detail = detail ≡ details.Allow methods.Read
-HasDetail UpstreamMismatch detail = SaysDiffer detail
-HasDetail UpstreamIncomplete detail = SaysMissing detail
-HasDetail UpstreamInvalid detail = SaysMissing detail
-HasDetail _ detail = SaysNothing detail
 
 -- the call may be refused so
 abbrev pub IsRefusalOf : Call → Reply → Type 0
@@ -153,21 +96,6 @@ Fits request reply = FitsCall request.call reply
 -- a table's answer fits what was asked of it; the base route is asked of none
 abbrev pub IsFitting : RowCall → RowReply → Type 0
 IsFitting (Ask request) (answers.Reply reply) = request.call ≢ calls.Base → Fits request reply
-
--- the status, and what is said beside it, with which a message is refused that asks for nothing: for its path, its name, its method, its texts or its size
-abbrev pub IsDeclinedAs : Code → ℕ → Detail → Type 0
-IsDeclinedAs HeadInvalid status detail = (status ≡ 400) × SaysNothing detail
-IsDeclinedAs HeadTooLong status detail = (status ≡ 431) × SaysNothing detail
-IsDeclinedAs SizeInvalid status detail = (status ≡ 413) × SaysNothing detail
-IsDeclinedAs Unsupported status detail = ((status ≡ 404) × SaysNothing detail) ⊎ ((status ≡ 405) × SaysMethods detail) ⊎ ((status ≡ 400) × SaysNothing detail)
-IsDeclinedAs NameInvalid status detail = (status ≡ 400) × SaysNothing detail
-IsDeclinedAs DigestInvalid status detail = (status ≡ 400) × SaysNothing detail
-IsDeclinedAs ManifestInvalid status detail = (status ≡ 400) × SaysNothing detail
-IsDeclinedAs ManifestUnknown status detail = (status ≡ 404) × SaysNothing detail
-IsDeclinedAs BlobUploadInvalid status detail = (status ≡ 400) × SaysNothing detail
-IsDeclinedAs NoMemory status detail = (status ≡ 503) × SaysNothing detail
-IsDeclinedAs NotBuilt status detail = (status ≡ 501) × SaysNothing detail
-IsDeclinedAs _ status detail = ⊥
 
 -- a message that asks for nothing may be answered so
 abbrev pub Declines : Reply → Type 0
