@@ -5,42 +5,61 @@ use Rattle.zot_digest.specs.Digest.{is_sound}
 use Rattle.zot_model.specs.declared.call.Call.{Call}
 use Rattle.zot_model.specs.declared.call.Call.TheVariants as calls
 use Rattle.zot_model.specs.declared.code.Code.{Code}
+use Rattle.zot_model.specs.declared.code.Code.TheVariants.{BlobUploadUnknown, NoMemory}
+use Rattle.zot_model.specs.declared.detail.Detail.TheVariants as details
+use Rattle.zot_model.specs.Codes.{HasDetail}
 use Rattle.zot_model.specs.declared.mount.Mount.{Mount}
 use Rattle.zot_model.specs.declared.reply.Reply.{Reply}
 use Rattle.zot_model.specs.declared.span.Span.{Span}
 use Rattle.zot_model.specs.declared.stored.Stored.{Stored}
-use Rattle.zot_model.specs.Fits.{FitsCall, IsAmong, codes_of, common_codes}
+use Rattle.zot_model.specs.Fits.{FitsCall, IsAmong, codes_of, common_codes, finish_codes, upload_codes}
 use Rattle.zot_model.specs.Pieces.{goes_on, keeps_limit}
-use Rattle.zot_model.specs.Plain.{MayAnswer, Outcome, at_found, plain, plain_begin, plain_finish, plain_get, plain_head, plain_patch, plain_post, plain_state}
-use Rattle.zot_model.specs.Reply.{no_memory, not_built}
+use Rattle.zot_model.specs.Plain.{MayAnswer, Outcome, at_found, if_taken, plain, plain_begin, plain_finish, plain_get, plain_head, plain_patch, plain_post, plain_state}
+use Rattle.zot_model.specs.Refusals.{no_memory, refusal}
 use Rattle.zot_model.specs.State.{RepoState}
 use Rattle.zot_model.specs.Uploads.{OpenUpload, is_full}
 
 -- each call on a repository may be refused with the common codes
+upload_common : (id : Option ℕ) (range : Option Span) (code : Code) → IsAmong common_codes code → IsAmong (upload_codes id range) code
+upload_common None range code h = inr h
+upload_common (Some id) None code h = inr (inr h)
+upload_common (Some id) (Some range) code h = inr (inr (inr h))
+
+finish_common : (id : Option ℕ) (range : Option Span) (code : Code) → IsAmong common_codes code → IsAmong (finish_codes id range) code
+finish_common None range code h = upload_common None range code h
+finish_common (Some id) range code h = inr (upload_common (Some id) range code h)
+
 common : (call : Call) (code : Code) → call ≢ calls.Base → IsAmong common_codes code → IsAmong (codes_of call) code
 common calls.Base code named h = absurd (named refl)
 common (calls.GetBlob digest) code named h = inr h
 common (calls.HeadBlob digest) code named h = inr h
-common (calls.DeleteBlob digest) code named h = inr (inr h)
+common (calls.DeleteBlob digest) code named h = inr (inr (inr h))
 common (calls.Post mount (Some digest) body) code named h = inr h
 common (calls.Post mount None body) code named h = inr h
-common (calls.Patch id range body) code named h = inr (inr (inr h))
-common (calls.Finish id range digest body) code named h = inr (inr (inr (inr h)))
+common (calls.Patch id range body) code named h = upload_common id range code h
+common (calls.Finish id range digest body) code named h = finish_common id range code h
 common (calls.UploadState id) code named h = inr h
-common (calls.PutManifest reference media body) code named h = inr (inr (inr h))
-common (calls.GetManifest reference) code named h = inr (inr (inr (inr (inr (inr h)))))
-common (calls.HeadManifest reference) code named h = inr (inr (inr (inr (inr (inr h)))))
-common (calls.DeleteManifest reference) code named h = inr h
-common (calls.Tags n last) code named h = inr h
-common (calls.Referrers digest filter) code named h = h
+common (calls.PutManifest reference media body) code named h = inr (inr (inr (inr h)))
+common (calls.GetManifest reference) code named h = inr (inr (inr (inr (inr (inr (inr h))))))
+common (calls.HeadManifest reference) code named h = inr (inr (inr (inr (inr (inr (inr h))))))
+common (calls.DeleteManifest reference) code named h = inr (inr h)
+common (calls.Tags n last) code named h = inr (inr h)
+common (calls.Referrers digest filter) code named h = inr h
 
--- want of memory fits each call on a repository
+says_nothing : (code : Code) → IsAmong common_codes code → HasDetail code details.None
+says_nothing code (inl h) = subst (λ c. HasDetail c details.None) (sym h) tt
+says_nothing code (inr (inl h)) = subst (λ c. HasDetail c details.None) (sym h) tt
+says_nothing code (inr (inr (inl h))) = subst (λ c. HasDetail c details.None) (sym h) tt
+says_nothing code (inr (inr (inr (inl h)))) = subst (λ c. HasDetail c details.None) (sym h) tt
+says_nothing code (inr (inr (inr (inr h)))) = absurd h
+
+-- a refusal with a common code fits each call on a repository
+pub common_fits : (call : Call) (code : Code) → call ≢ calls.Base → IsAmong common_codes code → FitsCall call (refusal code)
+common_fits call code named h = inr (common call code named h, refl, says_nothing code h)
+
+-- want of memory does
 memory_fits : (call : Call) → call ≢ calls.Base → FitsCall call no_memory
-memory_fits call named = inr (common call _ named (inr (inl refl)), refl, tt)
-
--- and so does what isn't built
-unbuilt_fits : (call : Call) → call ≢ calls.Base → FitsCall call not_built
-unbuilt_fits call named = inr (common call _ named (inr (inr (inr (inr (inl refl))))), refl, tt)
+memory_fits call named = common_fits call NoMemory named (inr (inl refl))
 
 chosen : (call : Call) (b : Bool) (x y : Outcome) → FitsCall call x.reply → FitsCall call y.reply → FitsCall call (if b then x else y).reply
 chosen call true x y h k = h
@@ -55,50 +74,71 @@ head_fits repo digest None e = rw e (inr (inl refl, refl, tt))
 head_fits repo digest (Some stored) e = rw e (inl tt)
 
 post_fits : (moment : ℕ) (repo : RepoState) (mount : Option Mount) (digest body : List ℕ) → FitsCall (calls.Post mount (Some digest) body) (plain_post moment repo digest body).reply
-post_fits moment repo None digest body = chosen (calls.Post None (Some digest) body) (is_sound digest body) _ _ (inl tt) (inr (inl refl, refl, tt))
-post_fits moment repo (Some mount) digest body = chosen (calls.Post (Some mount) (Some digest) body) (is_sound digest body) _ _ (inl tt) (inr (inl refl, refl, tt))
+post_fits moment repo mount digest body = chosen (calls.Post mount (Some digest) body) (is_sound digest body) _ _ (inl tt) (inr (inl refl, refl, tt))
 
 begin_fits : (moment : ℕ) (repo : RepoState) (mount : Option Mount) (body : List ℕ) → FitsCall (calls.Post mount None body) (plain_begin moment repo).reply
-begin_fits moment repo None body = chosen (calls.Post None None body) (is_full repo.sessions) _ _ (inr (inl refl, refl, tt)) (inl refl)
-begin_fits moment repo (Some mount) body = chosen (calls.Post (Some mount) None body) (is_full repo.sessions) _ _ (inr (inl refl, refl, tt)) (inl refl)
+begin_fits moment repo mount body = chosen (calls.Post mount None body) (is_full repo.sessions) _ _ (inr (inl refl, refl, tt)) (inl refl)
 
-state_fits : (repo : RepoState) (asked : Option ℕ) (id : ℕ) (found : Option OpenUpload) → FitsCall (calls.UploadState asked) (at_found repo (plain_state repo id) found).reply
+state_fits : (repo : RepoState) (asked id : ℕ) (found : Option OpenUpload) → FitsCall (calls.UploadState (Some asked)) (at_found repo (plain_state repo id) found).reply
 state_fits repo asked id None = inr (inl refl, refl, tt)
 state_fits repo asked id (Some upload) = inl refl
 
-patch_fits : (repo : RepoState) (asked : Option ℕ) (range : Option Span) (piece : List ℕ) (id : ℕ) (found : Option OpenUpload) → FitsCall (calls.Patch asked range piece) (at_found repo (plain_patch repo range piece id) found).reply
-patch_fits repo asked range piece id None = inr (inl refl, refl, tt)
-patch_fits repo asked range piece id (Some upload) =
-    chosen (calls.Patch asked range piece) (goes_on range (length upload.bytes) (length piece)) _ _ (chosen (calls.Patch asked range piece) (keeps_limit upload piece) _ _ (inl refl) (inr (inr (inr (inl refl)), refl, tt))) (inr (inr (inl refl), refl, tt))
+-- a piece that is refused, or what follows one that is taken
+module _ (repo : RepoState) (id : ℕ) (upload : OpenUpload) (piece : List ℕ) (outcome : Outcome) where
+  patch_taken : (asked : ℕ) (range : Option Span) → FitsCall (calls.Patch (Some asked) range piece) outcome.reply → FitsCall (calls.Patch (Some asked) range piece) (if_taken repo id upload range piece outcome).reply
+  patch_taken asked None h = chosen (calls.Patch (Some asked) None piece) (keeps_limit upload piece) _ _ h (inr (inr (inl refl), refl, tt))
+  patch_taken asked (Some span) h =
+      chosen (calls.Patch (Some asked) (Some span) piece) (goes_on (Some span) (length upload.bytes) (length piece)) _ _
+      (chosen (calls.Patch (Some asked) (Some span) piece) (keeps_limit upload piece) _ _ h (inr (inr (inr (inl refl)), refl, tt)))
+      (inr (inr (inl refl), refl, tt))
 
-finish_fits : (moment : ℕ) (repo : RepoState) (asked : Option ℕ) (range : Option Span) (digest piece : List ℕ) (id : ℕ) (found : Option OpenUpload)
-    → FitsCall (calls.Finish asked range digest piece) (at_found repo (plain_finish moment repo range digest piece id) found).reply
-finish_fits moment repo asked range digest piece id None = inr (inr (inl refl), refl, tt)
+  finish_taken : (asked : ℕ) (range : Option Span) (digest : List ℕ) → FitsCall (calls.Finish (Some asked) range digest piece) outcome.reply
+      → FitsCall (calls.Finish (Some asked) range digest piece) (if_taken repo id upload range piece outcome).reply
+  finish_taken asked None digest h = chosen (calls.Finish (Some asked) None digest piece) (keeps_limit upload piece) _ _ h (inr (inr (inr (inl refl)), refl, tt))
+  finish_taken asked (Some span) digest h =
+      chosen (calls.Finish (Some asked) (Some span) digest piece) (goes_on (Some span) (length upload.bytes) (length piece)) _ _
+      (chosen (calls.Finish (Some asked) (Some span) digest piece) (keeps_limit upload piece) _ _ h (inr (inr (inr (inr (inl refl))), refl, tt)))
+      (inr (inr (inr (inl refl)), refl, tt))
+
+unknown_patch : (asked : ℕ) (range : Option Span) (piece : List ℕ) → FitsCall (calls.Patch (Some asked) range piece) (refusal BlobUploadUnknown)
+unknown_patch asked None piece = inr (inl refl, refl, tt)
+unknown_patch asked (Some span) piece = inr (inl refl, refl, tt)
+
+unknown_finish : (asked : ℕ) (range : Option Span) (digest piece : List ℕ) → FitsCall (calls.Finish (Some asked) range digest piece) (refusal BlobUploadUnknown)
+unknown_finish asked None digest piece = inr (inr (inl refl), refl, tt)
+unknown_finish asked (Some span) digest piece = inr (inr (inl refl), refl, tt)
+
+patch_fits : (repo : RepoState) (asked : ℕ) (range : Option Span) (piece : List ℕ) (id : ℕ) (found : Option OpenUpload) → FitsCall (calls.Patch (Some asked) range piece) (at_found repo (plain_patch repo range piece id) found).reply
+patch_fits repo asked range piece id None = unknown_patch asked range piece
+patch_fits repo asked range piece id (Some upload) = patch_taken repo id upload piece _ asked range (inl refl)
+
+finish_fits : (moment : ℕ) (repo : RepoState) (asked : ℕ) (range : Option Span) (digest piece : List ℕ) (id : ℕ) (found : Option OpenUpload)
+    → FitsCall (calls.Finish (Some asked) range digest piece) (at_found repo (plain_finish moment repo range digest piece id) found).reply
+finish_fits moment repo asked range digest piece id None = unknown_finish asked range digest piece
 finish_fits moment repo asked range digest piece id (Some upload) =
-    chosen (calls.Finish asked range digest piece) (goes_on range (length upload.bytes) (length piece)) _ _
-    (chosen (calls.Finish asked range digest piece) (keeps_limit upload piece) _ _ (chosen (calls.Finish asked range digest piece) (is_sound digest (upload.bytes ++ piece)) _ _ (inl tt) (inr (inl refl, refl, tt))) (inr (inr (inr (inr (inl refl))), refl, tt)))
-    (inr (inr (inr (inl refl)), refl, tt))
+    finish_taken repo id upload piece _ asked range digest
+    (chosen (calls.Finish (Some asked) range digest piece) (is_sound digest (upload.bytes ++ piece)) _ _ (inl tt) (inr (inl refl, refl, tt)))
 
 plain_fits : (moment : ℕ) (repo : RepoState) (call : Call) → call ≢ calls.Base → FitsCall call (plain moment repo call).reply
 unfolding plain
 plain_fits moment repo calls.Base named = absurd (named refl)
 plain_fits moment repo (calls.GetBlob digest) named = get_fits repo digest (map.get repo.blobs digest) refl
 plain_fits moment repo (calls.HeadBlob digest) named = head_fits repo digest (map.get repo.blobs digest) refl
-plain_fits moment repo (calls.DeleteBlob digest) named = unbuilt_fits (calls.DeleteBlob digest) named
+plain_fits moment repo (calls.DeleteBlob digest) named = inr (inr (inr (inl refl)), refl, tt)
 plain_fits moment repo (calls.Post mount (Some digest) body) named = post_fits moment repo mount digest body
 plain_fits moment repo (calls.Post mount None body) named = begin_fits moment repo mount body
 plain_fits moment repo (calls.Patch None range body) named = inr (inl refl, refl, tt)
-plain_fits moment repo (calls.Patch (Some id) range body) named = patch_fits repo (Some id) range body id (map.get repo.sessions.uploads id)
-plain_fits moment repo (calls.Finish None range digest body) named = inr (inr (inl refl), refl, tt)
-plain_fits moment repo (calls.Finish (Some id) range digest body) named = finish_fits moment repo (Some id) range digest body id (map.get repo.sessions.uploads id)
+plain_fits moment repo (calls.Patch (Some id) range body) named = patch_fits repo id range body id (map.get repo.sessions.uploads id)
+plain_fits moment repo (calls.Finish None range digest body) named = inr (inl refl, refl, tt)
+plain_fits moment repo (calls.Finish (Some id) range digest body) named = finish_fits moment repo id range digest body id (map.get repo.sessions.uploads id)
 plain_fits moment repo (calls.UploadState None) named = inr (inl refl, refl, tt)
-plain_fits moment repo (calls.UploadState (Some id)) named = state_fits repo (Some id) id (map.get repo.sessions.uploads id)
-plain_fits moment repo (calls.PutManifest reference media body) named = unbuilt_fits (calls.PutManifest reference media body) named
-plain_fits moment repo (calls.GetManifest reference) named = unbuilt_fits (calls.GetManifest reference) named
-plain_fits moment repo (calls.HeadManifest reference) named = unbuilt_fits (calls.HeadManifest reference) named
-plain_fits moment repo (calls.DeleteManifest reference) named = unbuilt_fits (calls.DeleteManifest reference) named
-plain_fits moment repo (calls.Tags n last) named = unbuilt_fits (calls.Tags n last) named
-plain_fits moment repo (calls.Referrers digest filter) named = unbuilt_fits (calls.Referrers digest filter) named
+plain_fits moment repo (calls.UploadState (Some id)) named = state_fits repo id id (map.get repo.sessions.uploads id)
+plain_fits moment repo (calls.PutManifest reference media body) named = inr (inr (inr (inr (inl refl))), refl, tt)
+plain_fits moment repo (calls.GetManifest reference) named = inr (inr (inr (inr (inr (inr (inr (inl refl)))))), refl, tt)
+plain_fits moment repo (calls.HeadManifest reference) named = inr (inr (inr (inr (inr (inr (inr (inl refl)))))), refl, tt)
+plain_fits moment repo (calls.DeleteManifest reference) named = inr (inr (inl refl), refl, tt)
+plain_fits moment repo (calls.Tags n last) named = inr (inr (inl refl), refl, tt)
+plain_fits moment repo (calls.Referrers digest filter) named = inr (inl refl, refl, tt)
 
 -- each answer to a call on a repository fits it
 pub answer_fits : (moment : ℕ) (old new : RepoState) (call : Call) (reply : Reply) → MayAnswer moment old call reply new → call ≢ calls.Base → FitsCall call reply

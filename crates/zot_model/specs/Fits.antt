@@ -1,12 +1,10 @@
 -- Which replies a request may have, and how a message is refused that asks for nothing.
-use Rattle.std.specs.Prelude.{◌≡◌, ◌≢◌, ℕ, List, [], ◌∷◌, Option, Some, None, ⊤, ◌⊎◌}
+use Rattle.std.specs.Prelude.{◌≡◌, ◌≢◌, ℕ, List, [], ◌∷◌, Option, Some, None, IsSome, IsSomeAnd, ⊤, ◌⊎◌}
 use Rattle.zot_model.specs.declared.call.Call.{Call}
 use Rattle.zot_model.specs.declared.call.Call.TheVariants as calls
 use Rattle.zot_model.specs.declared.code.Code.{Code}
-use Rattle.zot_model.specs.declared.code.Code.TheVariants.{BlobUnknown, BlobUploadInvalid, BlobUploadUnknown, DigestInvalid, HeadInvalid, HeadTooLong, HopRefused, ManifestBlobUnknown, ManifestInvalid, ManifestUnknown, NameInvalid, NameUnknown, NoMemory, NotBuilt, PeerFault, SizeInvalid, StorageFault, TooManyRequests, Unsupported, UpstreamFault, UpstreamIncomplete, UpstreamInvalid, UpstreamMismatch, UpstreamTooLarge}
-use Rattle.zot_model.specs.declared.detail.Detail.{Detail}
-use Rattle.zot_model.specs.declared.detail.Detail.TheVariants as details
-use Rattle.zot_model.specs.declared.methods.Methods.TheVariants as methods
+use Rattle.zot_model.specs.declared.code.Code.TheVariants.{BlobUnknown, BlobUploadInvalid, BlobUploadUnknown, DigestInvalid, HopRefused, ManifestBlobUnknown, ManifestInvalid, ManifestUnknown, NameUnknown, NoMemory, NotBuilt, PeerFault, SizeInvalid, StorageFault, TooManyRequests, Unsupported, UpstreamFault, UpstreamIncomplete, UpstreamInvalid, UpstreamMismatch, UpstreamTooLarge}
+use Rattle.zot_model.specs.declared.mount.Mount.{Mount}
 use Rattle.zot_model.specs.declared.reply.Reply.{Reply}
 use Rattle.zot_model.specs.declared.reply.Reply.TheVariants as replies
 use Rattle.zot_model.specs.declared.request.Request.{Request}
@@ -14,133 +12,145 @@ use Rattle.zot_model.specs.declared.row.RowCall.{RowCall}
 use Rattle.zot_model.specs.declared.row.RowCall.TheVariants.{Ask}
 use Rattle.zot_model.specs.declared.row.RowReply.{RowReply}
 use Rattle.zot_model.specs.declared.row.RowReply.TheVariants as answers
+use Rattle.zot_model.specs.declared.span.Span.{Span}
+pub use Rattle.zot_model.specs.Codes.{HasDetail, IsDeclinedAs, SaysDiffer, SaysMethods, SaysMissing, SaysNothing, SaysSession, status_of}
 
 -- the code is one of these
 abbrev pub IsAmong : List Code → Code → Type 0
 IsAmong [] code = ⊥
 IsAmong (other ∷ others) code = (code ≡ other) ⊎ IsAmong others code
 
+-- ---- refusals
+
 -- the codes with which any call on a repository may be refused, whatever the repository has
 abbrev pub common_codes : List Code
-common_codes = StorageFault ∷ NoMemory ∷ PeerFault ∷ HopRefused ∷ NotBuilt ∷ []
+common_codes = StorageFault ∷ NoMemory ∷ PeerFault ∷ HopRefused ∷ []
+
+-- the codes of a call that isn't built
+abbrev pub unbuilt_codes : List Code
+unbuilt_codes = NotBuilt ∷ common_codes
 
 -- the codes with which a wanted manifest may be refused
 abbrev pub manifest_codes : List Code
-manifest_codes = ManifestUnknown ∷ UpstreamFault ∷ UpstreamMismatch ∷ UpstreamIncomplete ∷ UpstreamInvalid ∷ UpstreamTooLarge ∷ common_codes
+manifest_codes = ManifestUnknown ∷ UpstreamFault ∷ UpstreamMismatch ∷ UpstreamIncomplete ∷ UpstreamInvalid ∷ UpstreamTooLarge ∷ unbuilt_codes
 
 -- the codes with which a POST may be refused: of a blob with its digest, or of a new upload
 abbrev pub post_codes : Option (List ℕ) → List Code
 post_codes (Some digest) = DigestInvalid ∷ common_codes
 post_codes None = TooManyRequests ∷ common_codes
 
--- the codes with which more bytes of an upload may be refused
-abbrev pub upload_codes : List Code
-upload_codes = BlobUploadUnknown ∷ BlobUploadInvalid ∷ SizeInvalid ∷ common_codes
+-- the codes with which more bytes of an upload may be refused: a text that is no id names no upload, and a piece without a range always goes on
+abbrev pub upload_codes : Option ℕ → Option Span → List Code
+upload_codes None range = BlobUploadUnknown ∷ common_codes
+upload_codes (Some id) None = BlobUploadUnknown ∷ SizeInvalid ∷ common_codes
+upload_codes (Some id) (Some range) = BlobUploadUnknown ∷ BlobUploadInvalid ∷ SizeInvalid ∷ common_codes
+
+-- the codes with which the last bytes of an upload may be refused
+abbrev pub finish_codes : Option ℕ → Option Span → List Code
+finish_codes None range = upload_codes None range
+finish_codes (Some id) range = DigestInvalid ∷ upload_codes (Some id) range
 
 -- the codes with which a call may be refused
 abbrev pub codes_of : Call → List Code
 codes_of calls.Base = []
 codes_of (calls.GetBlob digest) = BlobUnknown ∷ common_codes
 codes_of (calls.HeadBlob digest) = BlobUnknown ∷ common_codes
-codes_of (calls.DeleteBlob digest) = BlobUnknown ∷ Unsupported ∷ common_codes
+codes_of (calls.DeleteBlob digest) = BlobUnknown ∷ Unsupported ∷ unbuilt_codes
 codes_of (calls.Post mount digest body) = post_codes digest
-codes_of (calls.Patch id range body) = upload_codes
-codes_of (calls.Finish id range digest body) = DigestInvalid ∷ upload_codes
+codes_of (calls.Patch id range body) = upload_codes id range
+codes_of (calls.Finish id range digest body) = finish_codes id range
 codes_of (calls.UploadState id) = BlobUploadUnknown ∷ common_codes
-codes_of (calls.PutManifest reference media body) = ManifestInvalid ∷ DigestInvalid ∷ ManifestBlobUnknown ∷ common_codes
+codes_of (calls.PutManifest reference media body) = ManifestInvalid ∷ DigestInvalid ∷ ManifestBlobUnknown ∷ unbuilt_codes
 codes_of (calls.GetManifest reference) = manifest_codes
 codes_of (calls.HeadManifest reference) = manifest_codes
-codes_of (calls.DeleteManifest reference) = ManifestUnknown ∷ common_codes
-codes_of (calls.Tags n last) = NameUnknown ∷ common_codes
-codes_of (calls.Referrers digest filter) = common_codes
-
--- the status of a refused request (RFC 9110, section 15)
-abbrev pub status_of : Code → ℕ
-status_of BlobUnknown = 404
-status_of BlobUploadInvalid = 416
-status_of BlobUploadUnknown = 404
-status_of DigestInvalid = 400
-status_of ManifestBlobUnknown = 400
-status_of ManifestInvalid = 400
-status_of ManifestUnknown = 404
-status_of NameInvalid = 400
-status_of NameUnknown = 404
-status_of SizeInvalid = 413
-status_of Unsupported = 405
-status_of TooManyRequests = 429
-status_of HeadInvalid = 400
-status_of HeadTooLong = 431
-status_of StorageFault = 500
-status_of UpstreamFault = 502
-status_of UpstreamMismatch = 502
-status_of UpstreamIncomplete = 502
-status_of UpstreamInvalid = 502
-status_of UpstreamTooLarge = 502
-status_of PeerFault = 502
-status_of NoMemory = 503
-status_of HopRefused = 508
-status_of NotBuilt = 501
-
--- the kinds of what a refusal says beside its code
-abbrev pub SaysNothing : Detail → Type 0
-SaysNothing details.None = ⊤
-SaysNothing _ = ⊥
-
-abbrev pub SaysMissing : Detail → Type 0
-SaysMissing (details.Missing digest) = ⊤
-SaysMissing _ = ⊥
-
-abbrev pub SaysDiffer : Detail → Type 0
-SaysDiffer (details.Differ wanted found) = ⊤
-SaysDiffer _ = ⊥
-
-abbrev pub SaysSession : Detail → Type 0
-SaysSession (details.Session id length) = ⊤
-SaysSession _ = ⊥
-
-abbrev pub SaysMethods : Detail → Type 0
-SaysMethods (details.Allow which) = ⊤
-SaysMethods _ = ⊥
-
--- what a refused request is told beside its code: a blob that is referenced may be read all the same
-abbrev pub HasDetail : Code → Detail → Type 0
-HasDetail BlobUploadInvalid detail = SaysSession detail
-HasDetail ManifestBlobUnknown detail = SaysMissing detail
-HasDetail Unsupported detail = detail ≡ details.Allow methods.Read
-HasDetail UpstreamMismatch detail = SaysDiffer detail
-HasDetail UpstreamIncomplete detail = SaysMissing detail
-HasDetail UpstreamInvalid detail = SaysMissing detail
-HasDetail _ detail = SaysNothing detail
+codes_of (calls.DeleteManifest reference) = ManifestUnknown ∷ unbuilt_codes
+codes_of (calls.Tags n last) = NameUnknown ∷ unbuilt_codes
+codes_of (calls.Referrers digest filter) = unbuilt_codes
 
 -- the call may be refused so
 abbrev pub IsRefusalOf : Call → Reply → Type 0
 IsRefusalOf call (replies.Refused status code detail) = IsAmong (codes_of call) code × (status ≡ status_of code) × HasDetail code detail
 IsRefusalOf call _ = ⊥
 
--- a POST may be answered so: where a blob is given whole or may be taken over it may be stored, and where it isn't given whole an upload may begin
-abbrev pub IsMadeBy : Option (List ℕ) → Reply → Type 0
-IsMadeBy (Some digest) (replies.BlobMade made) = ⊤
-IsMadeBy None (replies.Session id length status) = status ≡ 202
-IsMadeBy _ _ = ⊥
+-- ---- successes
+
+abbrev pub IsBase : Reply → Type 0
+IsBase replies.Base = ⊤
+IsBase _ = ⊥
+
+abbrev pub IsBlob : Reply → Type 0
+IsBlob (replies.Blob digest bytes) = ⊤
+IsBlob _ = ⊥
+
+abbrev pub IsBlobHead : Reply → Type 0
+IsBlobHead (replies.BlobHead digest size) = ⊤
+IsBlobHead _ = ⊥
+
+abbrev pub IsBlobMade : Reply → Type 0
+IsBlobMade (replies.BlobMade digest) = ⊤
+IsBlobMade _ = ⊥
+
+-- an upload, with this status
+abbrev pub IsSession : ℕ → Reply → Type 0
+IsSession wanted (replies.Session id length status) = status ≡ wanted
+IsSession wanted _ = ⊥
+
+abbrev pub IsManifestMade : Reply → Type 0
+IsManifestMade (replies.ManifestMade digest subject) = ⊤
+IsManifestMade _ = ⊥
+
+abbrev pub IsManifest : Reply → Type 0
+IsManifest (replies.Manifest digest media bytes) = ⊤
+IsManifest _ = ⊥
+
+abbrev pub IsManifestHead : Reply → Type 0
+IsManifestHead (replies.ManifestHead digest media size) = ⊤
+IsManifestHead _ = ⊥
+
+abbrev pub IsPage : Reply → Type 0
+IsPage (replies.Tags tags next most) = ⊤
+IsPage _ = ⊥
+
+abbrev pub IsReferrers : Reply → Type 0
+IsReferrers (replies.Referrers text filtered) = ⊤
+IsReferrers _ = ⊥
+
+abbrev pub IsDeleted : Reply → Type 0
+IsDeleted replies.Deleted = ⊤
+IsDeleted _ = ⊥
+
+-- an upload began, or a blob was taken over from a repository that was named
+abbrev pub IsBegun : Option Mount → Reply → Type 0
+IsBegun mount (replies.BlobMade digest) = IsSomeAnd mount (λ m. IsSome m.from)
+IsBegun mount (replies.Session id length status) = status ≡ 202
+IsBegun mount _ = ⊥
+
+-- a POST may be answered so: a blob that is given whole is stored, and else an upload begins, or a blob is taken over
+abbrev pub IsPosted : Option Mount → Option (List ℕ) → Reply → Type 0
+IsPosted mount (Some digest) reply = IsBlobMade reply
+IsPosted mount None reply = IsBegun mount reply
+
+-- more bytes of an upload are answered so; a text that is no id names no upload
+abbrev pub IsOfUpload : Option ℕ → (Reply → Type 0) → Reply → Type 0
+IsOfUpload None P reply = ⊥
+IsOfUpload (Some id) P reply = P reply
 
 -- the call may succeed so
 abbrev pub IsSuccessOf : Call → Reply → Type 0
-IsSuccessOf calls.Base replies.Base = ⊤
-IsSuccessOf (calls.GetBlob digest) (replies.Blob named bytes) = ⊤
-IsSuccessOf (calls.HeadBlob digest) (replies.BlobHead named size) = ⊤
-IsSuccessOf (calls.DeleteBlob digest) replies.Deleted = ⊤
-IsSuccessOf (calls.Post (Some mount) None body) (replies.BlobMade made) = ⊤
-IsSuccessOf (calls.Post mount digest body) reply = IsMadeBy digest reply
-IsSuccessOf (calls.Patch id range body) (replies.Session of length status) = status ≡ 202
-IsSuccessOf (calls.Finish id range digest body) (replies.BlobMade made) = ⊤
-IsSuccessOf (calls.UploadState id) (replies.Session of length status) = status ≡ 204
-IsSuccessOf (calls.PutManifest reference media body) (replies.ManifestMade digest subject) = ⊤
-IsSuccessOf (calls.GetManifest reference) (replies.Manifest digest media bytes) = ⊤
-IsSuccessOf (calls.HeadManifest reference) (replies.ManifestHead digest media size) = ⊤
-IsSuccessOf (calls.DeleteManifest reference) replies.Deleted = ⊤
-IsSuccessOf (calls.Tags n last) (replies.Tags tags next most) = ⊤
-IsSuccessOf (calls.Referrers digest filter) (replies.Referrers text filtered) = ⊤
-IsSuccessOf _ _ = ⊥
+IsSuccessOf calls.Base reply = IsBase reply
+IsSuccessOf (calls.GetBlob digest) reply = IsBlob reply
+IsSuccessOf (calls.HeadBlob digest) reply = IsBlobHead reply
+IsSuccessOf (calls.DeleteBlob digest) reply = IsDeleted reply
+IsSuccessOf (calls.Post mount digest body) reply = IsPosted mount digest reply
+IsSuccessOf (calls.Patch id range body) reply = IsOfUpload id (IsSession 202) reply
+IsSuccessOf (calls.Finish id range digest body) reply = IsOfUpload id IsBlobMade reply
+IsSuccessOf (calls.UploadState id) reply = IsOfUpload id (IsSession 204) reply
+IsSuccessOf (calls.PutManifest reference media body) reply = IsManifestMade reply
+IsSuccessOf (calls.GetManifest reference) reply = IsManifest reply
+IsSuccessOf (calls.HeadManifest reference) reply = IsManifestHead reply
+IsSuccessOf (calls.DeleteManifest reference) reply = IsDeleted reply
+IsSuccessOf (calls.Tags n last) reply = IsPage reply
+IsSuccessOf (calls.Referrers digest filter) reply = IsReferrers reply
 
 -- a call may be answered so
 abbrev pub FitsCall : Call → Reply → Type 0
@@ -153,21 +163,6 @@ Fits request reply = FitsCall request.call reply
 -- a table's answer fits what was asked of it; the base route is asked of none
 abbrev pub IsFitting : RowCall → RowReply → Type 0
 IsFitting (Ask request) (answers.Reply reply) = request.call ≢ calls.Base → Fits request reply
-
--- the status, and what is said beside it, with which a message is refused that asks for nothing: for its path, its name, its method, its texts or its size
-abbrev pub IsDeclinedAs : Code → ℕ → Detail → Type 0
-IsDeclinedAs HeadInvalid status detail = (status ≡ 400) × SaysNothing detail
-IsDeclinedAs HeadTooLong status detail = (status ≡ 431) × SaysNothing detail
-IsDeclinedAs SizeInvalid status detail = (status ≡ 413) × SaysNothing detail
-IsDeclinedAs Unsupported status detail = ((status ≡ 404) × SaysNothing detail) ⊎ ((status ≡ 405) × SaysMethods detail) ⊎ ((status ≡ 400) × SaysNothing detail)
-IsDeclinedAs NameInvalid status detail = (status ≡ 400) × SaysNothing detail
-IsDeclinedAs DigestInvalid status detail = (status ≡ 400) × SaysNothing detail
-IsDeclinedAs ManifestInvalid status detail = (status ≡ 400) × SaysNothing detail
-IsDeclinedAs ManifestUnknown status detail = (status ≡ 404) × SaysNothing detail
-IsDeclinedAs BlobUploadInvalid status detail = (status ≡ 400) × SaysNothing detail
-IsDeclinedAs NoMemory status detail = (status ≡ 503) × SaysNothing detail
-IsDeclinedAs NotBuilt status detail = (status ≡ 501) × SaysNothing detail
-IsDeclinedAs _ status detail = ⊥
 
 -- a message that asks for nothing may be answered so
 abbrev pub Declines : Reply → Type 0

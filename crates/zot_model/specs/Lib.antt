@@ -1,7 +1,10 @@
+pub mod Calls
+pub mod Codes
 pub mod Fits
 pub mod History
 pub mod Pieces
 pub mod Plain
+pub mod Refusals
 pub mod Reply
 pub mod State
 pub mod Uploads

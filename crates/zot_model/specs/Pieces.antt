@@ -1,11 +1,12 @@
 -- Which pieces an upload takes (OCI Distribution Specification, "Pushing a blob in chunks").
 use Rattle.std.specs.Prelude.{ℕ, ◌+◌, ◌==◌, nat_le, Bool, true, ◌&&◌, List, length, Option, Some, None}
+use Rattle.zot_model.specs.declared.limits.TheConstants.{UPLOAD_LIMIT}
 use Rattle.zot_model.specs.declared.span.Span.{Span}
 use Rattle.zot_model.specs.Uploads.{OpenUpload}
 
 -- the most bytes that an upload has
 unfoldable pub upload_limit : ℕ
-upload_limit = 67_108_864
+upload_limit = UPLOAD_LIMIT
 
 -- whether a range is that of a piece of so many bytes that stands behind so many others: it starts at the place behind these, and has a place for each byte.
 -- Places are counted from 0, and the last one belongs to the range

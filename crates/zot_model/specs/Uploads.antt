@@ -3,6 +3,7 @@ use Rattle.std.specs.Prelude.{◌≡◌, ℕ, ◌+◌, ◌≤◌, nat_le, Bool, 
 use Rattle.std.specs.Coded.{Coded, code_by, coded×, coded_list, coded_ℕ}
 use Rattle.std.specs.FinMap as map
 use Rattle.std.specs.Ordering.{nat_cmp}
+use Rattle.zot_model.specs.declared.limits.TheConstants.{LAST_ID, OPEN_LIMIT}
 
 -- a finite map from numbers, in their order
 abbrev pub NumberMap : Type 0 → Type 0
@@ -24,11 +25,11 @@ pub record UploadTable : Type 0 where
 
 -- the most uploads that a repository has open
 unfoldable pub open_limit : ℕ
-open_limit = 1_000
+open_limit = OPEN_LIMIT
 
 -- the last id
 unfoldable pub last_id : ℕ
-last_id = 18_446_744_073_709_551_615
+last_id = LAST_ID
 
 -- whether no upload more may be opened: as many are open as may be, or the last id was given
 abbrev pub is_full : UploadTable → Bool

@@ -1,5 +1,6 @@
 -- Which requests there are.
 use Rattle.std.specs.Prelude.{◌≡◌, ◌↔◌, ℕ, ◌^◌, ◌<◌, ◌≤◌, length, None, IfSome, ⊤}
+use Rattle.zot_model.specs.declared.limits.TheConstants.{BODY_LIMIT, MANIFEST_LIMIT}
 use Rattle.zot_model.specs.declared.call.Call.{Call}
 use Rattle.zot_model.specs.declared.call.Call.TheVariants.{Base, DeleteBlob, DeleteManifest, Finish, GetBlob, GetManifest, HeadBlob, HeadManifest, Patch, Post, PutManifest, Referrers, Tags, UploadState}
 use Rattle.zot_model.specs.declared.request.Request.{Request}
@@ -7,11 +8,11 @@ use Rattle.zot_model.specs.declared.span.Span.{Span}
 
 -- the most bytes that a body has
 unfoldable pub body_limit : ℕ
-body_limit = 67_108_864
+body_limit = BODY_LIMIT
 
 -- the most bytes that a manifest has
 unfoldable pub manifest_limit : ℕ
-manifest_limit = 4_194_304
+manifest_limit = MANIFEST_LIMIT
 
 -- a number of at most 18 decimal digits
 abbrev pub IsShort : ℕ → Type 0

@@ -1,4 +1,7 @@
 //! What is asked of a registry.
+ghost use Rattle.std.specs.Prelude.{◌≡◌};
+ghost use Rattle.zot_model.specs.Calls.{is_head};
+
 use crate::mount::Mount;
 use crate::span::Span;
 use zot_digest::{Bytes, Digest, Words};
@@ -61,4 +64,13 @@ pub enum Call {
         digest: Digest,
         filter: Option<Words>,
     },
+}
+
+impl Call {
+    /// Whether it is asked with HEAD, whose reply shows no body.
+    pub fn is_head(&self) -> bool
+        ensures { result ≡ is_head self.now }
+    {
+        matches!(self, Call::HeadBlob(_) | Call::HeadManifest(_))
+    }
 }

@@ -1,4 +1,8 @@
 //! The codes of refusals.
+ghost use Rattle.std.specs.Prelude.{◌≡◌};
+ghost use Rattle.zot_model.specs.Codes.{code_text, message_text, status_of};
+
+use crate::code_row::CodeRow;
 
 /// Why a request was refused. The first ones, through `TooManyRequests`, are codes of the OCI Distribution Specification ("Error Codes"), the others are this project's own.
 #[derive(Clone, Copy, Debug, PartialEq, Eq)]
@@ -51,4 +55,27 @@ pub enum Code {
     HopRefused,
     /// A request that isn't built yet.
     NotBuilt,
+}
+
+impl Code {
+    /// The text of the code.
+    pub fn text(self) -> &'static str
+        ensures { result.now ≡ code_text self }
+    {
+        CodeRow::of(self).text
+    }
+
+    /// The message of the code: its text in lower case, with spaces for underscores.
+    pub fn message(self) -> &'static str
+        ensures { result.now ≡ message_text self }
+    {
+        CodeRow::of(self).message
+    }
+
+    /// The status of a request that is refused with the code.
+    pub fn status(self) -> u16
+        ensures { result ≡ status_of self }
+    {
+        CodeRow::of(self).status
+    }
 }

@@ -3,10 +3,13 @@
 
 mod call;
 mod code;
+mod code_row;
 mod detail;
 mod laws;
+mod limits;
 mod methods;
 mod mount;
+mod refusals;
 mod reply;
 mod request;
 mod row;
@@ -18,7 +21,8 @@ mod tests;
 pub use crate::call::Call;
 pub use crate::code::Code;
 pub use crate::detail::Detail;
-pub use crate::laws::answers_fit;
+pub use crate::laws::{answers_fit, common_refusals_fit};
+pub use crate::limits::{BODY_LIMIT, LAST_ID, MANIFEST_LIMIT, OPEN_LIMIT, UPLOAD_LIMIT};
 pub use crate::methods::Methods;
 pub use crate::mount::Mount;
 pub use crate::reply::Reply;

@@ -16,6 +16,7 @@ use Rattle.zot_reply.proofs.CutLemmas.{same_status}
 use Rattle.zot_reply.proofs.ReplyingLemmas.{FindsFitting}
 use Rattle.zot_reply.proofs.SameLemmas.{AreSpelledAlike, blob_heads_alike, blobs_alike, blobs_made_alike, indexes_alike, manifest_heads_alike, manifests_alike, manifests_made_alike, pages_alike, same_blob_made, sessions_alike}
 use Rattle.zot_reply.proofs.SameRefusals.{refusals_alike}
+use Rattle.zot_reply.proofs.BegunLemmas.{of_begun}
 use Rattle.zot_reply.specs.Reading.{IsReal, IsTaken, Spells, is_head}
 
 -- ---- statuses
@@ -89,13 +90,14 @@ successes_alike name calls.Base a b c k h g x y e = base_alike a b h g
 successes_alike name (calls.GetBlob digest) a b c k h g x y e = blobs_alike name a b c k h g x y e
 successes_alike name (calls.HeadBlob digest) a b c k h g x y e = blob_heads_alike name a b c k h g x y e
 successes_alike name (calls.DeleteBlob digest) a b c k h g x y e = deleted_alike digest a b h g
-successes_alike name (calls.Post (Some mount) None body) a b c k h g x y e = taken_alike name a b c k h g x y e
-successes_alike name (calls.Post None None body) a b c k h g x y e = sessions_alike 202 name a b c k h g x y e
-successes_alike name (calls.Post (Some mount) (Some digest) body) a b c k h g x y e = blobs_made_alike name a b c k h g x y e
-successes_alike name (calls.Post None (Some digest) body) a b c k h g x y e = blobs_made_alike name a b c k h g x y e
-successes_alike name (calls.Patch id range body) a b c k h g x y e = sessions_alike 202 name a b c k h g x y e
-successes_alike name (calls.Finish id range digest body) a b c k h g x y e = blobs_made_alike name a b c k h g x y e
-successes_alike name (calls.UploadState id) a b c k h g x y e = sessions_alike 204 name a b c k h g x y e
+successes_alike name (calls.Post mount None body) a b c k h g x y e = taken_alike name a b c k (of_begun mount a h) (of_begun mount b g) x y e
+successes_alike name (calls.Post mount (Some digest) body) a b c k h g x y e = blobs_made_alike name a b c k h g x y e
+successes_alike name (calls.Patch None range body) a b c k h g x y e = absurd h
+successes_alike name (calls.Patch (Some id) range body) a b c k h g x y e = sessions_alike 202 name a b c k h g x y e
+successes_alike name (calls.Finish None range digest body) a b c k h g x y e = absurd h
+successes_alike name (calls.Finish (Some id) range digest body) a b c k h g x y e = blobs_made_alike name a b c k h g x y e
+successes_alike name (calls.UploadState None) a b c k h g x y e = absurd h
+successes_alike name (calls.UploadState (Some id)) a b c k h g x y e = sessions_alike 204 name a b c k h g x y e
 successes_alike name (calls.PutManifest reference media body) a b c k h g x y e = manifests_made_alike name a b c k h g x y e
 successes_alike name (calls.GetManifest reference) a b c k h g x y e = manifests_alike name a b c k h g x y e
 successes_alike name (calls.HeadManifest reference) a b c k h g x y e = manifest_heads_alike name a b c k h g x y e

@@ -156,6 +156,12 @@ one_code (code ∷ codes) a b h (inr i) (inr j) e = one_code codes a b (and_part
 pub distinct_codes : (call : Call) → are_distinct (codes_of call) ≡ true
 distinct_codes (calls.Post mount None body) = refl
 distinct_codes (calls.Post mount (Some digest) body) = refl
+distinct_codes (calls.Patch None range body) = refl
+distinct_codes (calls.Patch (Some id) None body) = refl
+distinct_codes (calls.Patch (Some id) (Some range) body) = refl
+distinct_codes (calls.Finish None range digest body) = refl
+distinct_codes (calls.Finish (Some id) None digest body) = refl
+distinct_codes (calls.Finish (Some id) (Some range) digest body) = refl
 distinct_codes call = refl
 
 -- ---- statuses and own fields of refusals

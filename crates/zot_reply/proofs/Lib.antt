@@ -1,4 +1,5 @@
 pub mod AloneLemmas
+pub mod BegunLemmas
 pub mod CodeLemmas
 pub mod CutLemmas
 pub mod DetailLemmas

@@ -14,6 +14,7 @@ use Rattle.zot_model.specs.declared.request.Request.{Request}
 use Rattle.zot_model.specs.declared.code.Code.{Code}
 use Rattle.zot_model.specs.declared.code.Code.TheVariants.{BlobUploadInvalid, ManifestBlobUnknown, UpstreamIncomplete, UpstreamInvalid}
 use Rattle.zot_model.specs.Fits.{Fits, HasDetail, IsAmong, status_of}
+pub use Rattle.zot_model.specs.Fits.{IsBlob, IsBlobHead, IsBlobMade, IsManifest, IsManifestHead, IsManifestMade, IsPage, IsReferrers, IsSession}
 use Rattle.zot_names.specs.Tag.{IsTag}
 use Rattle.zot_spell.specs.Codes.{code_text}
 use Rattle.zot_spell.specs.Spelling.{parts_of, reply_bytes, spelled}
@@ -67,43 +68,6 @@ Finds Kind name head close bytes None = (reply : Reply) → IsReal reply → Kin
 abbrev pub Confirms : List ℕ → Bool → Bool → List ℕ → Reply → Option Reply → Type 0
 Confirms name head close bytes reply (Some found) = (found ≡ reply) × (bytes ≡ spelled (parts_of name reply) head close) × IsReal reply
 Confirms name head close bytes reply None = Differs name head close bytes reply
-
--- the kinds of replies that a request may have
-abbrev pub IsBlob : Reply → Type 0
-IsBlob (replies.Blob digest bytes) = ⊤
-IsBlob _ = ⊥
-
-abbrev pub IsBlobHead : Reply → Type 0
-IsBlobHead (replies.BlobHead digest size) = ⊤
-IsBlobHead _ = ⊥
-
-abbrev pub IsBlobMade : Reply → Type 0
-IsBlobMade (replies.BlobMade digest) = ⊤
-IsBlobMade _ = ⊥
-
-abbrev pub IsSession : ℕ → Reply → Type 0
-IsSession status (replies.Session id size code) = code ≡ status
-IsSession status _ = ⊥
-
-abbrev pub IsManifestMade : Reply → Type 0
-IsManifestMade (replies.ManifestMade digest subject) = ⊤
-IsManifestMade _ = ⊥
-
-abbrev pub IsManifest : Reply → Type 0
-IsManifest (replies.Manifest digest media bytes) = ⊤
-IsManifest _ = ⊥
-
-abbrev pub IsManifestHead : Reply → Type 0
-IsManifestHead (replies.ManifestHead digest media size) = ⊤
-IsManifestHead _ = ⊥
-
-abbrev pub IsPage : Reply → Type 0
-IsPage (replies.Tags tags next n) = ⊤
-IsPage _ = ⊥
-
-abbrev pub IsReferrers : Reply → Type 0
-IsReferrers (replies.Referrers text filtered) = ⊤
-IsReferrers _ = ⊥
 
 abbrev pub IsIndex : Bool → Reply → Type 0
 IsIndex filtered (replies.Referrers text other) = other ≡ filtered

@@ -1,6 +1,7 @@
 //! Replies read back from their bytes.
-ghost use Rattle.std.specs.Prelude.{◌≡◌, ℕ, List, Some, IfOk, Err, MatchResult, false};
-ghost use Rattle.zot_model.specs.Fits.{FitsCall, IsSuccessOf};
+ghost use Rattle.std.specs.Prelude.{◌≡◌, ℕ, List, Some, IfOk, Err, MatchResult, IsSome, IsSomeAnd, true, false};
+ghost use Rattle.http.specs.StatusCode.{IsStatusCode};
+ghost use Rattle.zot_model.specs.Fits.{FitsCall, IsBegun, IsBlobMade, IsOfUpload, IsSession, IsSuccessOf};
 ghost use Rattle.zot_reply.specs.declared.read_reply_error.ReadReplyError.TheVariants.{Bad, NoMemory};
 ghost use Rattle.zot_model.specs.declared.call.Call.TheVariants as calls;
 ghost use Rattle.zot_model.specs.declared.reply.Reply.{Reply};
@@ -21,6 +22,7 @@ use crate::sessions::read_session;
 use std::alloc::{AllocError, Global};
 use zot_digest::Digest;
 use zot_model::{Call, Mount, Reply, Request};
+use zot_names::UploadId;
 use zot_spell::name_of;
 
 /// The reply to a request that bytes spell: one that may answer it (`Fits`), to the request's method, whether or not the connection closes behind it. `Bad` comes exactly where the bytes spell no such reply, with a body that is longer or shorter than its length among them, and `NoMemory` only where memory runs out. Of replies that are spelled alike one is given, so what `spell_reply` spelled is read as a reply that is equal to it up to its spelling.
@@ -80,9 +82,9 @@ fn read_success(
         Call::HeadBlob(_) => read_blob_head(alloc, name, bytes, close),
         Call::DeleteBlob(_) => confirm(alloc, name, Reply::Deleted, false, close, bytes),
         Call::Post { mount, digest, .. } => read_post(alloc, name, mount, digest, bytes, close),
-        Call::Patch { .. } => read_session(alloc, name, bytes, close, 202),
-        Call::Finish { .. } => read_blob_made(alloc, name, bytes, close),
-        Call::UploadState { .. } => read_session(alloc, name, bytes, close, 204),
+        Call::Patch { id, .. } => read_upload(alloc, name, id, bytes, close, 202),
+        Call::Finish { id, .. } => read_finished(alloc, name, id, bytes, close),
+        Call::UploadState { id } => read_upload(alloc, name, id, bytes, close, 204),
         Call::PutManifest { .. } => read_manifest_made(alloc, name, bytes, close),
         Call::GetManifest(_) => read_manifest(alloc, name, bytes, close),
         Call::HeadManifest(_) => read_manifest_head(alloc, name, bytes, close),
@@ -105,10 +107,69 @@ fn read_post(
 {
     match digest {
         Some(_) => read_blob_made(alloc, name, bytes, close),
-        None => match mount {
-            Some(_) => read_taken(alloc, name, bytes, close),
-            None => read_session(alloc, name, bytes, close, 202),
-        },
+        None => read_begun(alloc, name, mount, bytes, close),
+    }
+}
+
+// An upload of an id with this status; a text that is no id has none.
+fn read_upload(
+    alloc: Global,
+    name: &str,
+    id: &Option<UploadId>,
+    bytes: &[u8],
+    close: bool,
+    status: u16,
+) -> Result<Option<Reply>, AllocError>
+    requires { IsStatusCode status }
+    ensures { IfOk result (Finds (IsOfUpload id.now (IsSession status)) name.now false close bytes.now) }
+{
+    match id {
+        Some(_) => read_session(alloc, name, bytes, close, status),
+        None => Ok(None),
+    }
+}
+
+// The blob of an upload of an id; a text that is no id has none.
+fn read_finished(
+    alloc: Global,
+    name: &str,
+    id: &Option<UploadId>,
+    bytes: &[u8],
+    close: bool,
+) -> Result<Option<Reply>, AllocError>
+    ensures { IfOk result (Finds (IsOfUpload id.now IsBlobMade) name.now false close bytes.now) }
+{
+    match id {
+        Some(_) => read_blob_made(alloc, name, bytes, close),
+        None => Ok(None),
+    }
+}
+
+// An upload that begins, or a blob that was taken over from a repository that was named.
+fn read_begun(
+    alloc: Global,
+    name: &str,
+    mount: &Option<Mount>,
+    bytes: &[u8],
+    close: bool,
+) -> Result<Option<Reply>, AllocError>
+    ensures { IfOk result (Finds (IsBegun mount.now) name.now false close bytes.now) }
+{
+    if has_from(mount) {
+        read_taken(alloc, name, bytes, close)
+    } else {
+        read_session(alloc, name, bytes, close, 202)
+    }
+}
+
+// Whether a repository is named from which a blob may be taken over.
+fn has_from(mount: &Option<Mount>) -> bool
+    ensures yes { result ≡ true → IsSomeAnd mount.now (λ m. IsSome m.from) }
+    ensures no { result ≡ false → ¬ IsSomeAnd mount.now (λ m. IsSome m.from) }
+{
+    match mount {
+        Some(mount) => mount.from.is_some(),
+        None => false,
     }
 }
 

@@ -12,7 +12,7 @@ use Rattle.zot_model.specs.declared.reply.Reply.TheVariants.{BlobHead, BlobMade,
 use Rattle.zot_model.specs.declared.span.Span.{Span}
 use Rattle.zot_model.specs.Pieces.{goes_on, keeps_limit}
 use Rattle.zot_model.specs.Plain.{MayAnswer, Outcome, at_found, found_or, if_taken, plain, plain_finish, plain_patch, plain_state, stays, with_blob, with_sessions, with_upload}
-use Rattle.zot_model.specs.Reply.{no_memory, not_built, refusal}
+use Rattle.zot_model.specs.Refusals.{no_memory, not_built, refusal}
 use Rattle.zot_model.proofs.FitLemmas.{answer_fits}
 use Rattle.zot_model.specs.Fits.{FitsCall}
 use Rattle.zot_model.specs.State.{Becomes, RepoState, RowState, fresh, repo_at}
@@ -96,7 +96,7 @@ pub begun : (moment : ℕ) (repo new : RepoState) (mount : Option Mount) (body :
 unfolding plain
 begun moment repo new mount body reply room is same = is_plain moment repo new (calls.Post mount None body) reply _ (chosen (is_full repo.sessions) _ _ room) is same
 
-full : (moment : ℕ) (repo new : RepoState) (mount : Option Mount) (body : List ℕ) (reply : Reply) → is_full repo.sessions ≡ true → reply ≡ refusal 429 TooManyRequests → new ≡ repo
+full : (moment : ℕ) (repo new : RepoState) (mount : Option Mount) (body : List ℕ) (reply : Reply) → is_full repo.sessions ≡ true → reply ≡ refusal TooManyRequests → new ≡ repo
     → MayAnswer moment repo (calls.Post mount None body) reply new
 unfolding plain
 full moment repo new mount body reply h is same = is_plain moment repo new (calls.Post mount None body) reply _ (taken (is_full repo.sessions) _ _ h) is same

@@ -1,23 +1,21 @@
 -- How a request on an upload is refused.
 use Rattle.std.specs.Prelude.{ℕ}
-use Rattle.zot_model.specs.declared.code.Code.TheVariants.{BlobUploadInvalid, BlobUploadUnknown, DigestInvalid, SizeInvalid, TooManyRequests}
-use Rattle.zot_model.specs.declared.detail.Detail.TheVariants as details
+use Rattle.zot_model.specs.declared.code.Code.TheVariants.{BlobUploadUnknown, DigestInvalid, SizeInvalid, TooManyRequests}
 use Rattle.zot_model.specs.declared.reply.Reply.{Reply}
-use Rattle.zot_model.specs.declared.reply.Reply.TheVariants.{Refused}
-use Rattle.zot_model.specs.Reply.{no_memory, refusal}
+use Rattle.zot_model.specs.Refusals.{no_memory, refusal, upload_invalid}
 use Rattle.zot_uploads.specs.declared.upload_error.UploadError.{UploadError}
 use Rattle.zot_uploads.specs.declared.upload_error.UploadError.TheVariants as errors
 
 -- the refusal of a request on the upload of an id (OCI Distribution Specification, "Error Codes")
 abbrev pub upload_refusal : ℕ → UploadError → Reply
-upload_refusal id errors.Full = refusal 429 TooManyRequests
-upload_refusal id errors.Unknown = refusal 404 BlobUploadUnknown
-upload_refusal id (errors.Range length) = Refused 416 BlobUploadInvalid (details.Session id length)
-upload_refusal id errors.TooLarge = refusal 413 SizeInvalid
-upload_refusal id (errors.Differ other) = refusal 400 DigestInvalid
+upload_refusal id errors.Full = refusal TooManyRequests
+upload_refusal id errors.Unknown = refusal BlobUploadUnknown
+upload_refusal id (errors.Range length) = upload_invalid id length
+upload_refusal id errors.TooLarge = refusal SizeInvalid
+upload_refusal id (errors.Differ other) = refusal DigestInvalid
 upload_refusal id errors.NoMemory = no_memory
 
 -- the refusal of a new upload: memory ran out, or there is no room
 abbrev pub new_refusal : UploadError → Reply
 new_refusal errors.NoMemory = no_memory
-new_refusal _ = refusal 429 TooManyRequests
+new_refusal _ = refusal TooManyRequests

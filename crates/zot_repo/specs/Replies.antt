@@ -8,7 +8,7 @@ use Rattle.zot_model.specs.declared.reply.Reply.{Reply}
 use Rattle.zot_model.specs.declared.reply.Reply.TheVariants.{Blob, BlobMade, Session}
 use Rattle.zot_model.specs.declared.stored.Stored.{Stored}
 use Rattle.zot_model.specs.Plain.{MayAnswer, found_or, with_blob, with_sessions}
-use Rattle.zot_model.specs.Reply.{no_memory, refusal}
+use Rattle.zot_model.specs.Refusals.{no_memory, refusal}
 use Rattle.zot_model.specs.State.{Becomes, RepoState, RowState, repo_at}
 use Rattle.zot_model.specs.Uploads.{OpenUpload, UploadTable, without}
 
@@ -23,18 +23,18 @@ GivesBlob found digest reply = (reply ≡ found_or (λ stored. Blob digest store
 -- the blob is refused for its digest, or stored, or memory ran out
 abbrev pub TakesBlob : ℕ → RepoState → List ℕ → List ℕ → Reply → RepoState → Type 0
 TakesBlob moment old digest body reply new =
-    ((¬ IsSound digest body) × (reply ≡ refusal 400 DigestInvalid) × (new ≡ old))
+    ((¬ IsSound digest body) × (reply ≡ refusal DigestInvalid) × (new ≡ old))
     ⊎ (IsSound digest body × (reply ≡ BlobMade digest) × (new ≡ with_blob moment old digest body))
     ⊎ ((reply ≡ no_memory) × (new ≡ old))
 
 -- what is told of the upload that was found under an id, where there is one
 abbrev pub found_told : ℕ → Option OpenUpload → Reply
-found_told id None = refusal 404 BlobUploadUnknown
+found_told id None = refusal BlobUploadUnknown
 found_told id (Some upload) = Session id (length upload.bytes) 204
 
 -- what is told of the upload that an id names; a text that is no id names none
 abbrev pub upload_told : Option ℕ → UploadTable → Reply
-upload_told None sessions = refusal 404 BlobUploadUnknown
+upload_told None sessions = refusal BlobUploadUnknown
 upload_told (Some id) sessions = found_told id (map.get sessions.uploads id)
 
 -- the bytes became a blob and the upload ended, or memory ran out

@@ -10,7 +10,7 @@ ghost use Rattle.zot_repo.specs.Replies.{GivesBlob, TakesBlob};
 use crate::repository::Repository;
 use std::alloc::{AllocError, Global};
 use zot_digest::{Bytes, Digest, digest_of};
-use zot_model::{Code, Reply, Stored};
+use zot_model::{Reply, Stored};
 
 impl Repository {
     /// The reply to a GET of a blob: a copy of its bytes.
@@ -18,14 +18,14 @@ impl Repository {
         ensures { GivesBlob (map.get self.now.blobs digest.now) digest.now result }
     {
         let Some(stored) = self.blob(digest) else {
-            return Reply::refused(404, Code::BlobUnknown);
+            return Reply::blob_unknown();
         };
         match stored.bytes.copy(alloc) {
             Ok(bytes) => Reply::Blob {
                 digest: *digest,
                 bytes,
             },
-            Err(_) => Reply::refused(503, Code::NoMemory),
+            Err(_) => Reply::no_memory(),
         }
     }
 
@@ -38,7 +38,7 @@ impl Repository {
                 digest: *digest,
                 size: stored.bytes.as_slice().len() as u64,
             },
-            None => Reply::refused(404, Code::BlobUnknown),
+            None => Reply::blob_unknown(),
         }
     }
 
@@ -63,11 +63,11 @@ impl Repository {
         ensures { TakesBlob moment self.old digest.now body.now result self.new }
     {
         if digest_of(body.as_slice()) != *digest {
-            return Reply::refused(400, Code::DigestInvalid);
+            return Reply::digest_invalid();
         }
         match self.put_copy(alloc, digest, body, moment) {
             Ok(()) => Reply::BlobMade { digest: *digest },
-            Err(_) => Reply::refused(503, Code::NoMemory),
+            Err(_) => Reply::no_memory(),
         }
     }
 

@@ -7,7 +7,7 @@ use std::alloc::Global;
 use std::collections::BTreeMap;
 use std::marker::Model;
 use zot_digest::Digest;
-use zot_model::{Call, Code, Reply, Stored};
+use zot_model::{Call, Reply, Stored};
 use zot_uploads::Uploads;
 
 /// A repository: whether it is known, its blobs in a tree by their digests, and its upload sessions. One that isn't known is a fresh one. Contracts see the plain repository.
@@ -71,7 +71,7 @@ impl Repository {
                 digest,
                 body,
             } => self.finish(alloc, *id, *range, digest, body, moment),
-            _ => Reply::refused(501, Code::NotBuilt),
+            _ => Reply::not_built(),
         }
     }
 }

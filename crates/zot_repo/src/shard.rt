@@ -11,7 +11,7 @@ use crate::repository::Repository;
 use std::alloc::{AllocError, Global};
 use std::collections::BTreeMap;
 use std::marker::Model;
-use zot_model::{Call, Code, Reply, Request, RowCall, RowReply};
+use zot_model::{Call, Reply, Request, RowCall, RowReply};
 use zot_names::RepoName;
 
 /// A table of repositories in memory. Contracts see the state of the plain registry.
@@ -84,7 +84,7 @@ impl RepoShard {
         }
         match self.keep(alloc, name, repository) {
             Ok(()) => reply,
-            Err(_) => Reply::refused(503, Code::NoMemory),
+            Err(_) => Reply::no_memory(),
         }
     }
 

@@ -10,7 +10,7 @@ ghost use Rattle.zot_repo.specs.Replies.{EndsWith, upload_told};
 use crate::repository::Repository;
 use std::alloc::Global;
 use zot_digest::{Bytes, Digest};
-use zot_model::{Code, Detail, Reply, Span};
+use zot_model::{Reply, Span};
 use zot_names::UploadId;
 use zot_uploads::UploadError;
 
@@ -37,7 +37,7 @@ impl Repository {
         ensures { result ≡ upload_told id self.now.sessions }
     {
         let Some(id) = id else {
-            return Reply::refused(404, Code::BlobUploadUnknown);
+            return Reply::upload_unknown();
         };
         match self.sessions.length(id) {
             Some(length) => Reply::Session {
@@ -45,7 +45,7 @@ impl Repository {
                 length,
                 status: 204,
             },
-            None => Reply::refused(404, Code::BlobUploadUnknown),
+            None => Reply::upload_unknown(),
         }
     }
 
@@ -54,7 +54,7 @@ impl Repository {
         ensures { (moment : ℕ) → MayAnswer moment self.old (calls.Patch id range body.now) result self.new }
     {
         let Some(id) = id else {
-            return Reply::refused(404, Code::BlobUploadUnknown);
+            return Reply::upload_unknown();
         };
         match self.sessions.append(id, range, body.as_slice()) {
             Ok(length) => Reply::Session {
@@ -79,7 +79,7 @@ impl Repository {
         ensures { MayAnswer moment self.old (calls.Finish id range digest.now body.now) result self.new }
     {
         let Some(id) = id else {
-            return Reply::refused(404, Code::BlobUploadUnknown);
+            return Reply::upload_unknown();
         };
         match self
             .sessions
@@ -99,7 +99,7 @@ impl Repository {
                 self.sessions.end(id);
                 Reply::BlobMade { digest: *digest }
             }
-            Err(_) => Reply::refused(503, Code::NoMemory),
+            Err(_) => Reply::no_memory(),
         }
     }
 }
@@ -109,8 +109,8 @@ fn refused_new(error: UploadError) -> Reply
     ensures { result ≡ new_refusal error }
 {
     match error {
-        UploadError::NoMemory => Reply::refused(503, Code::NoMemory),
-        _ => Reply::refused(429, Code::TooManyRequests),
+        UploadError::NoMemory => Reply::no_memory(),
+        _ => Reply::too_many_requests(),
     }
 }
 
@@ -119,15 +119,11 @@ fn refused(id: UploadId, error: UploadError) -> Reply
     ensures { result ≡ upload_refusal id error }
 {
     match error {
-        UploadError::Full => Reply::refused(429, Code::TooManyRequests),
-        UploadError::Unknown => Reply::refused(404, Code::BlobUploadUnknown),
-        UploadError::Range(length) => Reply::Refused {
-            status: 416,
-            code: Code::BlobUploadInvalid,
-            detail: Detail::Session(id, length),
-        },
-        UploadError::TooLarge => Reply::refused(413, Code::SizeInvalid),
-        UploadError::Differ(_) => Reply::refused(400, Code::DigestInvalid),
-        UploadError::NoMemory => Reply::refused(503, Code::NoMemory),
+        UploadError::Full => Reply::too_many_requests(),
+        UploadError::Unknown => Reply::upload_unknown(),
+        UploadError::Range(length) => Reply::upload_invalid(id, length),
+        UploadError::TooLarge => Reply::size_invalid(),
+        UploadError::Differ(_) => Reply::digest_invalid(),
+        UploadError::NoMemory => Reply::no_memory(),
     }
 }

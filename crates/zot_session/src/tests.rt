@@ -3,9 +3,9 @@ use crate::{Answers, End, end_is_one, requests_are_read, session};
 use std::alloc::Global;
 use std::test::Fail;
 use zot_fakes::{MemorySink, MemorySource};
-use zot_model::{Call, Code, Reply, Request};
+use zot_model::{Call, Reply, Request};
 
-/// Answers the base route, and refuses each other request as one that isn't built.
+/// Answers the base route, and each other request with want of memory.
 #[derive(Drop)]
 struct Counted {
     asked: u64,
@@ -20,7 +20,7 @@ impl Answers for Counted {
         self.asked = self.asked.saturating_add(1);
         match &request.call {
             Call::Base => Reply::Base,
-            _ => Reply::refused(501, Code::NotBuilt),
+            _ => Reply::no_memory(),
         }
     }
 }

@@ -1,5 +1,6 @@
 pub mod Codes
 pub mod Fields
+pub mod Heads
 pub mod Bodies
 pub mod Spelling
 pub mod Alike

@@ -3,6 +3,8 @@
 
 mod bodies;
 mod codes;
+mod field;
+mod field_name;
 mod fields;
 mod laws;
 mod places;
@@ -14,6 +16,8 @@ mod status;
 mod tests;
 
 pub use crate::codes::text_of;
+pub use crate::field::{Field, add_field, add_length, add_type, push_fields, value_in};
+pub use crate::field_name::FieldName;
 pub use crate::fields::{push_digest, push_filter, push_link, push_location, push_type};
 pub use crate::laws::alike_replies;
 pub use crate::places::{manifest_place, upload_place};

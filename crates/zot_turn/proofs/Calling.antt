@@ -5,11 +5,14 @@ use mathlib.Core.Option.{none, some, some-injective}
 use lib.ListN.{get_elem?}
 use Rattle.atomic_table.specs.Table.{State, Me, Step, Act, keeps, takes, gives, rest, Allows, Splits, Joins, Final, Seen, put_back}
 use Rattle.zot_turn.specs.declared.known.Known.{Known}
-use Rattle.zot_turn.specs.History.{Replays, signed, history, entries_of}
+use Rattle.zot_history.specs.History.{Replays, signed, entries_of}
+use Rattle.zot_turn.specs.Turns.{history}
 use Rattle.zot_turn.specs.Seats.{numbers, acting, with_entries, HasOwn, longer, shorter}
 use Rattle.zot_turn.specs.Steps.{times, blank, Kept, HasNumber, Takes, MayGive, after_turn, Drawn, Settles, giver, taker, joined}
-use Rattle.zot_turn.proofs.Lists.{prefix_refl, each_append, each_left}
-use Rattle.zot_turn.proofs.Turns.{history-append, replays_append, history_push}
+use Rattle.zot_history.proofs.Prefixes.{prefix_refl}
+use Rattle.zot_turn.proofs.Lists.{each_append, each_left}
+use Rattle.zot_history.proofs.Histories.{replays_append}
+use Rattle.zot_turn.proofs.Turns.{history-append, history_push}
 use Rattle.zot_turn.proofs.Totals.{numbers_with, times-append, times_first, times_contained, numbers-append}
 use Rattle.zot_turn.proofs.Changes.{times_owned}
 use Rattle.atomic_table.specs.Seated.{TableId}

@@ -2,9 +2,9 @@
 use Rattle.std.proofs.Common.{◌≡◌, ◌≢◌, ℕ, List, [], ◌∷◌, ◌++◌, Bool, cond, map, Option, Some, None, IsSomeAnd, sym, refl, ap, ◌∙◌, subst, append_assoc, append-nil, eq-eqb, ne_eqb}
 use mathlib.Core.Logic.{dite}
 use native.Mathlib.Decide.{ℕ_discrete}
-use Rattle.zot_turn.specs.History.{Replays, entries_of}
+use Rattle.zot_history.specs.History.{Replays, entries_of}
 use Rattle.zot_turn.specs.Seats.{Home, Standing, Stands, IsLater, HasMade, acting, numbers, with_entries}
-use Rattle.zot_turn.proofs.Lists.{prefix_refl, prefix_trans}
+use Rattle.zot_history.proofs.Prefixes.{prefix_refl, prefix_trans}
 use Rattle.zot_turn.proofs.Totals.{with_none, with_more}
 
 module _ {O E : Type 0} (step : O → ℕ → E → O → Type 0) where

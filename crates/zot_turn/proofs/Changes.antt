@@ -8,7 +8,8 @@ use lib.ListN.{get_elem?}
 use Rattle.atomic_table.specs.Table.{State, Me}
 use Rattle.atomic_table.proofs.Lists.{at_set, set_here, set_else, set_again}
 use Rattle.zot_turn.specs.declared.known.Known.{Known}
-use Rattle.zot_turn.specs.History.{Replays, history, turns_of}
+use Rattle.zot_history.specs.History.{Replays}
+use Rattle.zot_turn.specs.Turns.{history, turns_of}
 use Rattle.zot_turn.specs.Seats.{numbers, acting}
 use Rattle.zot_turn.specs.Steps.{times, total, once, blank, owned, Fits, Recorded, Kept, HasNumber}
 use Rattle.zot_turn.proofs.Totals.{total_set, total_at, total_two, place_within, times_first, times-append, numbers-append, numbers_blank}

@@ -7,10 +7,12 @@ use native.Mathlib.Decide.{ℕ_discrete, dec_le}
 use lib.ListN.{get_elem?}
 use Rattle.atomic_table.specs.Table.{State}
 use Rattle.zot_turn.specs.declared.known.Known.{Known}
-use Rattle.zot_turn.specs.History.{Replays, history, entries_of, turns_of}
+use Rattle.zot_history.specs.History.{Replays, entries_of}
+use Rattle.zot_turn.specs.Turns.{history, turns_of}
 use Rattle.zot_turn.specs.Seats.{numbers, HasOwn}
 use Rattle.zot_turn.specs.Steps.{times, once, blank, Kept}
-use Rattle.zot_turn.proofs.Lists.{no_more, behind_itself, each_map, each_left}
+use Rattle.zot_history.proofs.Prefixes.{no_more, behind_itself}
+use Rattle.zot_turn.proofs.Lists.{each_map, each_left}
 use Rattle.zot_turn.proofs.Turns.{turns_of-append}
 use Rattle.zot_turn.proofs.Totals.{times-append, times_contained, contained_times, each_number, total_some}
 use Rattle.zot_turn.proofs.Changes.{once_some, once_true, never, one_view, its_drawn, its_alone, its_owned}

@@ -5,10 +5,11 @@ use Rattle.std.proofs.lemmas.List.{length-map}
 use mathlib.Core.Logic.{dite}
 use mathlib.Core.List.{IsPrefix}
 use native.Mathlib.Decide.{ℕ_discrete}
-use Rattle.zot_turn.specs.History.{Replays, signed, history, entries_of, turns_of}
+use Rattle.zot_history.specs.History.{Replays, signed, entries_of}
+use Rattle.zot_turn.specs.Turns.{history, turns_of}
 use Rattle.zot_turn.specs.Seats.{Home, Standing, Stands, Turned, Parted, Joined, IsLater, HasMade, HasAll, HasOwn, numbers, acting, with_entries, seen}
 use Rattle.zot_turn.specs.Raising.{IsRaise, IsPair, HasMore, HasRaised, HasAwaited, newcomer}
-use Rattle.zot_turn.proofs.Turns.{entries_of-append, entries_of_signed, entries_of_others}
+use Rattle.zot_history.proofs.Histories.{entries_of-append, entries_of_signed, entries_of_others}
 use Rattle.zot_turn.proofs.Totals.{times_contained, contained_times, times_rest, times_more}
 use Rattle.zot_turn.proofs.Lists.{each_left}
 use Rattle.zot_turn.proofs.Closing.{stands_there}

@@ -10,7 +10,8 @@ use prog.Atomic.{either}
 use Rattle.atomic_table.specs.Table.{State, Me, Step, Act, keeps, takes, gives, rest, Allows, Splits, Joins, Final, Seen, put_back}
 use Rattle.atomic_table.proofs.Lists.{set_here}
 use Rattle.zot_turn.specs.declared.known.Known.{Known}
-use Rattle.zot_turn.specs.History.{history, entries_of, turns_of}
+use Rattle.zot_history.specs.History.{entries_of}
+use Rattle.zot_turn.specs.Turns.{history, turns_of}
 use Rattle.zot_turn.specs.Seats.{numbers, acting, HasOwn}
 use Rattle.zot_turn.specs.Steps.{times, once, blank, owned, Fits, Recorded, Kept, HasNumber, Drawn, Draws}
 use Rattle.zot_turn.proofs.Lists.{each_map, each_append}

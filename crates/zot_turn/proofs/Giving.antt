@@ -4,11 +4,14 @@ use Rattle.std.specs.List.{AllByRecursion}
 use mathlib.Core.Option.{some}
 use Rattle.atomic_table.specs.Table.{Me, gives, rest, Allows, put_back}
 use Rattle.zot_turn.specs.declared.known.Known.{Known}
-use Rattle.zot_turn.specs.History.{Replays, signed, history, entries_of, turns_of}
+use Rattle.zot_history.specs.History.{Replays, signed, entries_of}
+use Rattle.zot_turn.specs.Turns.{history, turns_of}
 use Rattle.zot_turn.specs.Seats.{numbers, acting, with_entries, HasOwn}
 use Rattle.zot_turn.specs.Steps.{times, once, blank, owned, Fits, Kept, HasNumber, MayGive, after_turn}
-use Rattle.zot_turn.proofs.Lists.{prefix_more, each_all, each_zip}
-use Rattle.zot_turn.proofs.Turns.{replays_append, history_push, entries_of-append, entries_of_signed, entries_of_others, turns_of-append, turns_of_other}
+use Rattle.zot_history.proofs.Prefixes.{prefix_more}
+use Rattle.zot_turn.proofs.Lists.{each_all, each_zip}
+use Rattle.zot_history.proofs.Histories.{replays_append, entries_of-append, entries_of_signed, entries_of_others}
+use Rattle.zot_turn.proofs.Turns.{history_push, turns_of-append, turns_of_other}
 use Rattle.zot_turn.proofs.Totals.{numbers_with, each_of_numbers}
 use Rattle.zot_turn.proofs.Changes.{once_true, never, acting_its, numbers_owned, recorded_set, changed, its_drawn, its_once, its_alone, its_owned, is_held, other_holds_not}
 

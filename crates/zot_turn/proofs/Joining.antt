@@ -10,10 +10,12 @@ use lib.ListN.{get_elem?}
 use Rattle.atomic_table.specs.Table.{State, Joins}
 use Rattle.atomic_table.proofs.Lists.{set_here, set_else}
 use Rattle.zot_turn.specs.declared.known.Known.{Known}
-use Rattle.zot_turn.specs.History.{history, entries_of, turns_of}
+use Rattle.zot_history.specs.History.{entries_of}
+use Rattle.zot_turn.specs.Turns.{history, turns_of}
 use Rattle.zot_turn.specs.Seats.{numbers, HasOwn, longer, shorter}
 use Rattle.zot_turn.specs.Steps.{times, once, blank, owned, Fits, Recorded, Kept, joined, spent_known}
-use Rattle.zot_turn.proofs.Lists.{prefix_refl, prefix_nil, each_map, each_zip, each_append, each_left, each_right}
+use Rattle.zot_history.proofs.Prefixes.{prefix_refl, prefix_nil}
+use Rattle.zot_turn.proofs.Lists.{each_map, each_zip, each_append, each_left, each_right}
 use Rattle.zot_turn.proofs.Turns.{same_entries, squeezed, Longer, longer_is}
 use Rattle.zot_turn.proofs.Totals.{times-append, numbers-append, total_set, place_within}
 use Rattle.zot_turn.proofs.Changes.{once_false, never, times_owned, one_view, recorded_set, fits_set, reviewed}

@@ -5,11 +5,14 @@ use mathlib.Core.Option.{none, some}
 use lib.ListN.{get_elem?}
 use Rattle.atomic_table.specs.Table.{State, Me, Step, Act, keeps, takes, gives, rest, Allows, Splits, Joins, Final, Seen, put_back}
 use Rattle.zot_turn.specs.declared.known.Known.{Known}
-use Rattle.zot_turn.specs.History.{Replays, history, entries_of}
+use Rattle.zot_history.specs.History.{Replays, entries_of}
+use Rattle.zot_turn.specs.Turns.{history}
 use Rattle.zot_turn.specs.Seats.{numbers}
 use Rattle.zot_turn.specs.Steps.{times, once, blank, owned, Fits, Kept, Looks, Settles}
-use Rattle.zot_turn.proofs.Lists.{prefix_nil, each_left}
-use Rattle.zot_turn.proofs.Turns.{history-append, replays_begin}
+use Rattle.zot_history.proofs.Prefixes.{prefix_nil}
+use Rattle.zot_turn.proofs.Lists.{each_left}
+use Rattle.zot_history.proofs.Histories.{replays_split}
+use Rattle.zot_turn.proofs.Turns.{history-append}
 use Rattle.zot_turn.proofs.Changes.{times_owned, recorded_set, changed, its_once}
 
 half_of : (n : ℕ) (b : Bool) (word : ℕ) → word ≡ 2 * n + once b → word / 2 ≡ n
@@ -57,7 +60,7 @@ module _ {O E : Type 0} (step : O → ℕ → E → O → Type 0) (origin : O) w
           legal = λ o e.
               let more = f.seen.0 in
               let whole : Replays step origin (history me.0.turns ++ history more) k.value = subst (λ (h : List (ℕ × E)). Replays step origin h k.value) (sym (ap history f.seen.1) ∙ history-append me.0.turns more) k.legal in
-              let r = replays_begin step origin k.value (history me.0.turns) (history more) whole in
+              let r = replays_split step origin k.value (history me.0.turns) (history more) whole in
               (r.0, subst (λ (p : O). Replays step p (history me.0.turns) r.0) (sym (f.opening o e)) r.1);
         },
       )

@@ -7,7 +7,7 @@ use lib.ListN.{get_elem?}
 use Rattle.atomic_table.specs.Table.{opening}
 use Rattle.zot_turn.specs.declared.known.Known.{Known}
 use Rattle.zot_turn.specs.Steps.{times, once, Fits, Kept, first_known}
-use Rattle.zot_turn.proofs.Lists.{prefix_refl}
+use Rattle.zot_history.proofs.Prefixes.{prefix_refl}
 use Rattle.zot_turn.proofs.Totals.{times_one, times_other}
 use Rattle.zot_turn.proofs.Changes.{never}
 

@@ -6,10 +6,12 @@ use lib.ListN.{get_elem?}
 use Rattle.atomic_table.specs.Table.{State, Splits}
 use Rattle.atomic_table.proofs.Lists.{at_snoc, at_longer}
 use Rattle.zot_turn.specs.declared.known.Known.{Known}
-use Rattle.zot_turn.specs.History.{history, entries_of, turns_of}
+use Rattle.zot_history.specs.History.{entries_of}
+use Rattle.zot_turn.specs.Turns.{history, turns_of}
 use Rattle.zot_turn.specs.Seats.{numbers}
 use Rattle.zot_turn.specs.Steps.{times, once, blank, owned, Fits, Kept, giver, taker}
-use Rattle.zot_turn.proofs.Lists.{prefix_nil, each_append, each_left, each_right}
+use Rattle.zot_history.proofs.Prefixes.{prefix_nil}
+use Rattle.zot_turn.proofs.Lists.{each_append, each_left, each_right}
 use Rattle.zot_turn.proofs.Totals.{times_first, numbers_blank, total_set, total_push}
 use Rattle.zot_turn.proofs.Changes.{never, times_owned, recorded_set, fits_set, reviewed, its_drawn}
 

@@ -6,10 +6,12 @@ use lib.ListN.{get_elem?}
 use prog.Atomic.{either}
 use Rattle.atomic_table.specs.Table.{State, Me, Step, Act, keeps, takes, gives, rest, Allows, Splits, Joins, Final, Seen, put_back}
 use Rattle.zot_turn.specs.declared.known.Known.{Known}
-use Rattle.zot_turn.specs.History.{Replays, history, entries_of, turns_of}
+use Rattle.zot_history.specs.History.{Replays, entries_of}
+use Rattle.zot_turn.specs.Turns.{history, turns_of}
 use Rattle.zot_turn.specs.Seats.{HasOwn}
 use Rattle.zot_turn.specs.Steps.{once, blank, owned, Fits, Kept, HasNumber, Takes, TakesOrNot}
-use Rattle.zot_turn.proofs.Lists.{prefix_more, each_all, each_map, each_zip, each_left}
+use Rattle.zot_history.proofs.Prefixes.{prefix_more}
+use Rattle.zot_turn.proofs.Lists.{each_all, each_map, each_zip, each_left}
 use Rattle.zot_turn.proofs.Turns.{same_entries, none_behind}
 use Rattle.zot_turn.proofs.Changes.{once_false, times_owned, recorded_set, changed, unchanged, its_once, none_holds, hit, missed}
 

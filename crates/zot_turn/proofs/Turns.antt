@@ -5,22 +5,11 @@ use Rattle.std.proofs.lemmas.List.Concat.{flat_map-append}
 use mathlib.Core.Logic.{dite}
 use mathlib.Core.List.{IsPrefix}
 use native.Mathlib.Decide.{ℕ_discrete}
-use Rattle.zot_turn.specs.History.{Replays, signed, history, entries_of, turns_of}
+use Rattle.zot_history.specs.History.{signed, entries_of}
+use Rattle.zot_turn.specs.Turns.{history, turns_of}
+use Rattle.zot_history.proofs.Histories.{cond_append, entries_of-append, entries_of_others, entries_of_signed}
 use Rattle.zot_turn.specs.Seats.{longer, shorter}
-use Rattle.zot_turn.proofs.Lists.{no_more, behind_itself, prefix_refl, both_begin}
-
-cond_append : {A : Type 0} (b : Bool) (x : A) (l m k : List A) → l ≡ m ++ k → cond b (x ∷ l) l ≡ cond b (x ∷ m) m ++ k
-cond_append true x l m k h = ap (λ r. x ∷ r) h
-cond_append false x l m k h = h
-
-module _ {O E : Type 0} (step : O → ℕ → E → O → Type 0) where
-  pub replays_append : (a m b : O) (xs ys : List (ℕ × E)) → Replays step a xs m → Replays step m ys b → Replays step a (xs ++ ys) b
-  replays_append a m b [] ys h k = subst (λ (z : O). Replays step z ys b) (sym h) k
-  replays_append a m b (x ∷ xs) ys h k = (h.0, h.1, replays_append h.0 m b xs ys h.2 k)
-
-  pub replays_begin : (a b : O) (xs ys : List (ℕ × E)) → Replays step a (xs ++ ys) b → (m : O) × Replays step a xs m × Replays step m ys b
-  replays_begin a b [] ys h = (a, refl, h)
-  replays_begin a b (x ∷ xs) ys h = let r = replays_begin h.0 b xs ys h.2 in (r.0, (h.0, h.1, r.1), r.2)
+use Rattle.zot_history.proofs.Prefixes.{no_more, behind_itself, prefix_refl, both_begin}
 
 module _ {E : Type 0} where
   pub history-append : (xs ys : List (ℕ × List E)) → history (xs ++ ys) ≡ history xs ++ history ys
@@ -32,21 +21,9 @@ module _ {E : Type 0} where
   pub history_prefix : (xs ys : List (ℕ × List E)) → IsPrefix xs ys → IsPrefix (history xs) (history ys)
   history_prefix xs ys p = (history p.0, sym (history-append xs p.0) ∙ ap history p.1)
 
-  pub entries_of-append : (n : ℕ) (xs ys : List (ℕ × E)) → entries_of n (xs ++ ys) ≡ entries_of n xs ++ entries_of n ys
-  entries_of-append n [] ys = refl
-  entries_of-append n (x ∷ xs) ys = cond_append (x.0 == n) x.1 (entries_of n (xs ++ ys)) (entries_of n xs) (entries_of n ys) (entries_of-append n xs ys)
-
   pub turns_of-append : (n : ℕ) (xs ys : List (ℕ × List E)) → turns_of n (xs ++ ys) ≡ turns_of n xs ++ turns_of n ys
   turns_of-append n [] ys = refl
   turns_of-append n (x ∷ xs) ys = cond_append (x.0 == n) x (turns_of n (xs ++ ys)) (turns_of n xs) (turns_of n ys) (turns_of-append n xs ys)
-
-  pub entries_of_signed : (n : ℕ) (es : List E) → entries_of n (signed n es) ≡ es
-  entries_of_signed n [] = refl
-  entries_of_signed n (e ∷ es) = ap (λ (b : Bool). cond b (e ∷ entries_of n (signed n es)) (entries_of n (signed n es))) (eq-eqb n n refl) ∙ ap (λ (l : List E). e ∷ l) (entries_of_signed n es)
-
-  pub entries_of_others : (n m : ℕ) (es : List E) → m ≢ n → entries_of n (signed m es) ≡ []
-  entries_of_others n m [] ne = refl
-  entries_of_others n m (e ∷ es) ne = ap (λ (b : Bool). cond b (e ∷ entries_of n (signed m es)) (entries_of n (signed m es))) (ne_eqb m n ne) ∙ entries_of_others n m es ne
 
   pub turns_of_one : (n : ℕ) (es : List E) → turns_of n ((n, es) ∷ []) ≡ (n, es) ∷ []
   turns_of_one n es = ap (λ (b : Bool). cond b ((n, es) ∷ []) []) (eq-eqb n n refl)

@@ -1,5 +1,5 @@
-pub mod History
 pub mod Raising
 pub mod Seats
 pub mod Steps
+pub mod Turns
 pub mod Views

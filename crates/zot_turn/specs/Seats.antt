@@ -4,7 +4,8 @@ use Rattle.std.specs.List.{Contains, AllByRecursion}
 use Rattle.std.specs.Prelude.{Option}
 use mathlib.Core.List.{IsPrefix}
 use Rattle.atomic_table.specs.Seated.{TableId}
-use Rattle.zot_turn.specs.History.{Replays, signed, history, entries_of, turns_of}
+use Rattle.zot_history.specs.History.{Replays, signed, entries_of}
+use Rattle.zot_turn.specs.Turns.{history, turns_of}
 
 -- which shared value it is, and the value that it was opened with
 pub record Home (O : Type 0) : Type 0 where

@@ -11,7 +11,8 @@ use lib.ListN.{get_elem?}
 use Rattle.atomic_table.specs.Table.{State, Me, Step}
 use Rattle.atomic_table.specs.Seated.{TableId}
 use Rattle.zot_turn.specs.declared.known.Known.{Known}
-use Rattle.zot_turn.specs.History.{Replays, signed, history, turns_of}
+use Rattle.zot_history.specs.History.{Replays, signed}
+use Rattle.zot_turn.specs.Turns.{history, turns_of}
 use Rattle.zot_turn.specs.Seats.{numbers, acting, with_entries, HasOwn, Elsewhere, longer, shorter}
 
 -- the first seat of a value

@@ -1,6 +1,6 @@
 // What may be shared, and what may be done to it in a turn.
 ghost use Rattle.std.specs.Prelude.{ℕ, List};
-ghost use Rattle.zot_turn.specs.History.{Replays, signed};
+ghost use Rattle.zot_history.specs.History.{Replays, signed};
 
 /// A kind of value that threads can share.
 pub trait Object {

@@ -9,10 +9,7 @@ use crate::upload_error::UploadError;
 use std::alloc::Global;
 use std::marker::Model;
 use zot_digest::{Digest, Hasher};
-use zot_model::Span;
-
-/// The most bytes that an upload has.
-const LIMIT: u64 = 67_108_864;
+use zot_model::{Span, UPLOAD_LIMIT};
 
 /// An open upload: its bytes so far, and the moment at which it began, in seconds.
 #[derive(Drop)]
@@ -107,7 +104,7 @@ impl Upload {
         if !goes_on(range, length, longer) {
             return Err(UploadError::Range(length));
         }
-        if longer > LIMIT {
+        if longer > UPLOAD_LIMIT {
             return Err(UploadError::TooLarge);
         }
         Ok(longer)

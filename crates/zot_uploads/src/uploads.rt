@@ -10,11 +10,8 @@ use crate::upload_map::UploadMap;
 use std::alloc::Global;
 use std::marker::Model;
 use zot_digest::Digest;
-use zot_model::Span;
+use zot_model::{LAST_ID, OPEN_LIMIT, Span};
 use zot_names::UploadId;
-
-/// The most uploads that a repository has open.
-const OPEN_LIMIT: usize = 1_000;
 
 /// The upload sessions of one repository by their ids, and how many were opened since the table was made. Contracts see a finite map beside that number.
 #[derive(Drop)]
@@ -56,7 +53,7 @@ impl Uploads {
         ensures refused { IfErr result (RefusesNew self.old) }
         ensures stays { OnErr result (self.new ≡ self.old) }
     {
-        if self.uploads.len() >= OPEN_LIMIT || self.opened == u64::MAX {
+        if self.uploads.len() >= OPEN_LIMIT || self.opened == LAST_ID {
             return Err(UploadError::Full);
         }
         let id = UploadId::new(self.opened + 1);

@@ -1,6 +1,6 @@
 // An object of its own kind, and a turn through the bounds alone.
 ghost use Rattle.std.specs.Prelude.{◌≡◌, ℕ, IfOk};
-ghost use Rattle.zot_turn.specs.History.{Replays, signed};
+ghost use Rattle.zot_history.specs.History.{Replays, signed};
 
 use crate::{Job, NoMemory, Object, Shared};
 use std::alloc::Global;

@@ -19,5 +19,5 @@ returns-in-UploadState c =
 
 pub returns-in_default : goal.returns-in_default
 returns-in_default c =
-    unbuilt c.args.moment c.args.self.now c.args.call.now c.refused.result c.in_default.not-GetBlob c.in_default.not-HeadBlob (λ mount digest body. c.in_default.not-Post mount digest body)
-    c.in_default.not-UploadState (λ id range body. c.in_default.not-Patch id range body) (λ id range digest body. c.in_default.not-Finish id range digest body) c.refused.ensures
+    unbuilt c.args.moment c.args.self.now c.args.call.now c.not_built.result c.in_default.not-GetBlob c.in_default.not-HeadBlob (λ mount digest body. c.in_default.not-Post mount digest body)
+    c.in_default.not-UploadState (λ id range body. c.in_default.not-Patch id range body) (λ id range digest body. c.in_default.not-Finish id range digest body) c.not_built.ensures

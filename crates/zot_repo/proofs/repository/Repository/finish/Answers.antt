@@ -10,7 +10,7 @@ use Rattle.zot_uploads.specs.Cases.{IsWhole, RefusesWhole}
 use Rattle.zot_repo.proofs.repository.Repository.finish.Goals as goal
 
 pub returns-in_default : goal.returns-in_default
-returns-in_default c = unnamed_finish c.args.moment c.args.self.now c.args.id c.args.range c.args.digest.now c.args.body.now c.refused.result c.in_default.is c.refused.ensures
+returns-in_default c = unnamed_finish c.args.moment c.args.self.now c.args.id c.args.range c.args.digest.now c.args.body.now c.upload_unknown.result c.in_default.is c.upload_unknown.ensures
 
 pub returns-in-Ok : goal.returns-in-Ok
 returns-in-Ok c =
@@ -30,7 +30,7 @@ returns-in-Err c =
     let piece = c.as_slice.result.now in
     let call = λ (id : Option ℕ) (body : List ℕ). calls.Finish id c.args.range c.args.digest.now body in
     let same = ap (λ (id : Option ℕ). call id piece) (sym c.in-Some.is) ∙ ap (call c.args.id) c.as_slice.ensures in
-    subst (λ (q : Call). MayAnswer c.args.moment old q c.refused-in-Err.result old) same
-    (finish_refused c.args.moment old c.in-Some.id c.args.range c.args.digest.now piece c.in-Err.error c.refused-in-Err.result
+    subst (λ (q : Call). MayAnswer c.args.moment old q c.refused.result old) same
+    (finish_refused c.args.moment old c.in-Some.id c.args.range c.args.digest.now piece c.in-Err.error c.refused.result
     (subst (λ (r : RepoState). RefusesWhole (map.get r.sessions.uploads c.in-Some.id) c.args.range piece c.args.digest.now c.in-Err.error) c.self.view_is c.in-Err.ensures.refused)
-    c.refused-in-Err.ensures)
+    c.refused.ensures)

@@ -9,7 +9,7 @@ use Rattle.zot_repo.proofs.repository.Repository.patch.Goals as goal
 use Rattle.zot_repo.proofs.repository.Repository.patch.Goals.{in-Ok, in-Err}
 
 pub returns-in_default : goal.returns-in_default
-returns-in_default c = unnamed_patch c.args.self.now c.args.id c.args.range c.args.body.now c.refused.result c.in_default.is c.refused.ensures
+returns-in_default c = unnamed_patch c.args.self.now c.args.id c.args.range c.args.body.now c.upload_unknown.result c.in_default.is c.upload_unknown.ensures
 
 pub invariant_of-self : goal.invariant_of-self
 invariant_of-self c =
@@ -28,5 +28,5 @@ returns c moment =
           (w.result-is ∙ ap (λ n. Session c.in-Some.id n 202) w.in-Ok.ensures.length) (ap repo w.in-Ok.ensures.ok) moment
       | in-Err w ↦
           patch_refused (repo c.self.inside.sessions) (repo c.append.new.self) c.in-Some.id c.args.range c.as_slice.result.now w.in-Err.refusal c.match-append.result w.in-Err.ensures.refused
-          (w.result-is ∙ w.refused-in-Err.ensures) (ap repo w.in-Err.ensures.stays) moment
+          (w.result-is ∙ w.refused.ensures) (ap repo w.in-Err.ensures.stays) moment
     ])

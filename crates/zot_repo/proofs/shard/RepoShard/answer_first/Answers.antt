@@ -13,4 +13,4 @@ returns-in-Ok c =
     (c.requires ∙ sym c.new-repository.ensures) c.in-Ok.ensures.ok c.answer-reply.ensures
 
 pub returns-in-Err : goal.returns-in-Err
-returns-in-Err c = replies_lacking c.args.moment c.args.self.now c.keep.new.self c.args.name.now c.args.call.now c.refused.result c.in-Err.ensures.err c.refused.ensures
+returns-in-Err c = replies_lacking c.args.moment c.args.self.now c.keep.new.self c.args.name.now c.args.call.now c.no_memory.result c.in-Err.ensures.err c.no_memory.ensures

@@ -1,5 +1,5 @@
 use Rattle.std.proofs.Common.{ℕ, List, ap, ◌∙◌, subst}
-use Rattle.zot_turn.specs.History.{Replays}
+use Rattle.zot_history.specs.History.{Replays}
 use Rattle.zot_turn.specs.Seats.{Home, Standing, Turned, acting, seen}
 use Rattle.zot_turn.proofs.Carried.{from_opening}
 use Rattle.zot_turn.proofs.Counting.{alone}
