@@ -1,9 +1,9 @@
 use Rattle.std.proofs.Common.{ℕ, List, ap, ◌∙◌, subst}
 use Rattle.zot_history.specs.History.{Replays}
 use Rattle.zot_turn.specs.Seats.{Home, Standing, Turned, acting, seen}
-use Rattle.zot_turn.proofs.Carried.{from_opening}
-use Rattle.zot_turn.proofs.Counting.{alone}
-use Rattle.zot_turn.proofs.tests.light.run_alone.Goals as goal
+use Rattle.tests_turn.proofs.Carried.{from_opening}
+use Rattle.tests_turn.proofs.Counting.{alone}
+use Rattle.tests_turn.proofs.light.run_alone.Goals as goal
 
 pub returns : goal.returns
 returns g c =

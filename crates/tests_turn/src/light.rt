@@ -2,9 +2,9 @@
 ghost use Rattle.std.specs.Prelude.{◌≡◌, ℕ, IfOk};
 ghost use Rattle.zot_history.specs.History.{Replays, signed};
 
-use crate::{Job, NoMemory, Object, Shared};
 use std::alloc::Global;
 use std::sync::Wait;
+use zot_turn::{Job, NoMemory, Object, Shared};
 
 #[derive(Drop)]
 pub enum Light {
@@ -23,8 +23,8 @@ impl Object for Light {
     type Entry = Change;
 
     ghost use Rattle.std.specs.Prelude.{◌≡◌, ◌⊎◌};
-    ghost use Rattle.zot_turn.specs.declared.tests.light.Light.TheVariants.{Red, Green};
-    ghost use Rattle.zot_turn.specs.declared.tests.light.Change.TheVariants.{Go, Stop};
+    ghost use Rattle.tests_turn.specs.declared.light.Light.TheVariants.{Red, Green};
+    ghost use Rattle.tests_turn.specs.declared.light.Change.TheVariants.{Go, Stop};
 
     ghost step = { λ old seat entry new. ((old ≡ Red) × (entry ≡ Go) × (new ≡ Green)) ⊎ ((old ≡ Green) × (entry ≡ Stop) × (new ≡ Red)) };
 }

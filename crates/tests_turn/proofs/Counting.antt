@@ -8,13 +8,13 @@ use native.Mathlib.Decide.{ℕ_discrete}
 use Rattle.zot_history.specs.History.{Replays, signed, entries_of}
 use Rattle.zot_turn.specs.Turns.{history, turns_of}
 use Rattle.zot_turn.specs.Seats.{Home, Standing, Stands, Turned, Parted, Joined, IsLater, HasMade, HasAll, HasOwn, numbers, acting, with_entries, seen}
-use Rattle.zot_turn.specs.Raising.{IsRaise, IsPair, HasMore, HasRaised, HasAwaited, newcomer}
+use Rattle.tests_turn.specs.Raising.{IsRaise, IsPair, HasMore, HasRaised, HasAwaited, newcomer}
 use Rattle.zot_history.proofs.Histories.{entries_of-append, entries_of_signed, entries_of_others}
 use Rattle.zot_turn.proofs.Totals.{times_contained, contained_times, times_rest, times_more}
 use Rattle.zot_turn.proofs.Lists.{each_left}
 use Rattle.zot_turn.proofs.Closing.{stands_there}
 use Rattle.zot_turn.proofs.Calling.{later_turned}
-use Rattle.zot_turn.proofs.Carried.{from_opening, later_acting, inner_made, made_none, made_more}
+use Rattle.tests_turn.proofs.Carried.{from_opening, later_acting, inner_made, made_none, made_more}
 
 pub raised : (a b : ℕ) (es : List (ℕ × ℕ)) → Replays IsRaise a es b → a + length es < 2 ^ 64 → b ≡ a + length es
 raised a b [] h fits = omega (arith, h)

@@ -1,8 +1,8 @@
 use Rattle.std.proofs.Common.{ℕ, arith, ap, ◌∙◌}
 use Rattle.zot_turn.specs.Seats.{Home, seen}
-use Rattle.zot_turn.proofs.Carried.{from_opening}
-use Rattle.zot_turn.proofs.Counting.{in_order, pair_has_all, pair_count, pair_raised}
-use Rattle.zot_turn.proofs.tests.counter.counted.Goals as goal
+use Rattle.tests_turn.proofs.Carried.{from_opening}
+use Rattle.tests_turn.proofs.Counting.{in_order, pair_has_all, pair_count, pair_raised}
+use Rattle.tests_turn.proofs.counter.counted.Goals as goal
 
 pub close-requires-clause-all : goal.close-requires-clause-all
 close-requires-clause-all c = pair_has_all 1000 1000 c.args.seat c.requires.both
@@ -19,4 +19,4 @@ returns-clause-order c =
 pub returns-clause-value : goal.returns-clause-value
 returns-clause-value c =
     let opening = ap (λ (h : Home ℕ). h.opening) c.requires.home.0 ∙ c.requires.home.1 in
-    pair_raised 1000 1000 c.args.seat c.requires.both opening (omega arith) c.close.result c.close.ensures.stands c.close.ensures.all c.close.ensures.own
+    c.value.ensures ∙ pair_raised 1000 1000 c.args.seat c.requires.both opening (omega arith) c.close.result c.close.ensures.stands c.close.ensures.all c.close.ensures.own

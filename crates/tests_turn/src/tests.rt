@@ -1,12 +1,7 @@
+use crate::counter::{raised_by_two, woken};
+use crate::light::{Light, switched};
+use crate::row::visited;
 use std::test::*;
-
-mod counter;
-mod light;
-mod row;
-
-use counter::{raised_by_two, woken};
-use light::{Light, switched};
-use row::visited;
 
 #[test]
 fn two_threads_take_a_thousand_turns_each(rt: HostRuntime) -> Result<(), Fail> {

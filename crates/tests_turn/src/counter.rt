@@ -1,21 +1,61 @@
 // A number that each turn raises by one.
-ghost use Rattle.std.specs.Prelude.{◌≡◌, ◌+◌, ◌<◌, ℕ, length, map, slice_index, IfOk, Some};
-ghost use Rattle.zot_turn.specs.Raising.{HasMore, HasRaised, HasAwaited, IsPair};
+ghost use Rattle.std.specs.Prelude.{◌≡◌, ◌+◌, ◌%◌, ◌^◌, ◌<◌, ℕ, length, map, slice_index, IfOk, Some};
+ghost use Rattle.tests_turn.specs.Raising.{HasMore, HasRaised, HasAwaited, IsPair};
 ghost use Rattle.zot_turn.specs.Seats.{seen};
 
-use crate::{Job, NoMemory, Object, Seat, Shared};
 use std::alloc::Global;
+use std::marker::Model;
 use std::sync::Wait;
 use std::thread;
 use std::thread::Threads;
 use std::time::{Clock, Duration};
+use zot_turn::{Job, NoMemory, Object, Seat, Shared};
 
 const TURNS: u64 = 1000;
 
-impl Object for u64 {
+/// A number that is counted up. Contracts see it as the number.
+#[derive(Drop)]
+pub struct Number {
+    value: u64,
+}
+
+impl Model for Number {
+    ghost use Rattle.std.specs.Prelude.{ℕ};
+
+    ghost Value = { ℕ };
+
+    ghost view = { λ n. n.value };
+}
+
+impl Number {
+    /// The number 0.
+    pub fn zero() -> Number
+        ensures { result ≡ 0 }
+    {
+        Number { value: 0 }
+    }
+
+    /// The number itself.
+    pub fn value(&self) -> u64
+        ensures { result ≡ self.now }
+    {
+        self.value
+    }
+
+    // Adds one, and answers the new number.
+    fn raise(&mut self) -> u64
+        ensures raised { self.new ≡ (self.old + 1) % 2 ^ 64 }
+        ensures answer { result ≡ self.new }
+    {
+        self.value = self.value.wrapping_add(1);
+        self.value
+    }
+}
+
+impl Object for Number {
     type Entry = u64;
 
-    ghost use Rattle.zot_turn.specs.Raising.{IsRaise};
+    ghost use Rattle.tests_turn.specs.Raising.{IsRaise};
 
     // it is raised by one, and the entry is the new number
     ghost step = { IsRaise };
@@ -27,7 +67,7 @@ pub struct Raise {
     pub made: u64,
 }
 
-impl Job<u64> for Raise {
+impl Job<Number> for Raise {
     ghost use Rattle.std.specs.Prelude.{◌≡◌, [], ◌∷◌};
 
     ghost needs = { λ job seat value. Unit {0} };
@@ -36,14 +76,13 @@ impl Job<u64> for Raise {
 
     ghost entries = { λ job. job.made ∷ [] };
 
-    fn run(&mut self, _seat: u64, value: &mut u64) {
-        *value = value.wrapping_add(1);
-        self.made = *value;
+    fn run(&mut self, _seat: u64, number: &mut Number) {
+        self.made = number.raise();
     }
 }
 
 // Takes a thousand turns.
-fn raise_often<R: Wait>(rt: &R, shared: &Shared<u64>, mut seat: Seat<u64>) -> Seat<u64>
+fn raise_often<R: Wait>(rt: &R, shared: &Shared<Number>, mut seat: Seat<Number>) -> Seat<Number>
     requires { seat.home ≡ shared.now }
     ensures { HasMore TURNS seat result }
 {
@@ -55,30 +94,30 @@ fn raise_often<R: Wait>(rt: &R, shared: &Shared<u64>, mut seat: Seat<u64>) -> Se
 }
 
 // Closes with the seat of number 0, into which the seat of the number that it gave was joined.
-fn counted(shared: Shared<u64>, seat: Seat<u64>) -> u64
+fn counted(shared: Shared<Number>, seat: Seat<Number>) -> u64
     requires home { (seat.home ≡ shared) × (shared.opening ≡ Some 0) }
     requires both { IsPair TURNS TURNS seat }
     ensures count { length (seen seat) ≡ 2000 }
     ensures order { (i : ℕ) → i < 2000 → slice_index (map (λ e. e.1) (seen seat)) i ≡ i + 1 }
     ensures value { result ≡ 2000 }
 {
-    shared.close(seat)
+    shared.close(seat).value()
 }
 
 /// Two threads raise the number a thousand times each.
 pub fn raised_by_two<R: Threads + Wait + Sync>(rt: &R, alloc: Global) -> Result<u64, NoMemory>
     ensures { IfOk result (λ n. n ≡ 2000) }
 {
-    let (shared, mut seat) = Shared::new(alloc, 0u64)?;
+    let (shared, mut seat) = Shared::new(alloc, Number::zero())?;
     let other = shared.split(rt, &mut seat)?;
     let lock = &shared;
     let (mut seat, other) = thread::join(
         rt,
-        move || -> Seat<u64>
+        move || -> Seat<Number>
             requires { seat.home ≡ lock.now }
             ensures { HasMore TURNS seat result }
         { raise_often(rt, lock, seat) },
-        move || -> Seat<u64>
+        move || -> Seat<Number>
             requires { other.home ≡ lock.now }
             ensures { HasMore TURNS other result }
         { raise_often(rt, lock, other) },
@@ -90,9 +129,9 @@ pub fn raised_by_two<R: Threads + Wait + Sync>(rt: &R, alloc: Global) -> Result<
 // Raises the number once, a little later.
 fn raise_late<R: Wait + Clock>(
     rt: &R,
-    shared: &Shared<u64>,
-    mut seat: Seat<u64>,
-) -> (Seat<u64>, u64)
+    shared: &Shared<Number>,
+    mut seat: Seat<Number>,
+) -> (Seat<Number>, u64)
     requires { seat.home ≡ shared.now }
     ensures { HasRaised seat result.0 result.1 }
 {
@@ -103,7 +142,11 @@ fn raise_late<R: Wait + Clock>(
 }
 
 // Waits for another's turn, and then raises the number.
-fn raise_next<R: Wait>(rt: &R, shared: &Shared<u64>, mut seat: Seat<u64>) -> (Seat<u64>, u64)
+fn raise_next<R: Wait>(
+    rt: &R,
+    shared: &Shared<Number>,
+    mut seat: Seat<Number>,
+) -> (Seat<Number>, u64)
     requires { seat.home ≡ shared.now }
     ensures { HasAwaited seat result.0 result.1 }
 {
@@ -120,16 +163,16 @@ pub fn woken<R: Threads + Wait + Clock + Sync>(
 ) -> Result<(u64, u64), NoMemory>
     ensures { IfOk result (λ made. (made.0 ≡ 1) × (made.1 ≡ 2)) }
 {
-    let (shared, mut seat) = Shared::new(alloc, 0u64)?;
+    let (shared, mut seat) = Shared::new(alloc, Number::zero())?;
     let other = shared.split(rt, &mut seat)?;
     let lock = &shared;
     let (late, next) = thread::join(
         rt,
-        move || -> (Seat<u64>, u64)
+        move || -> (Seat<Number>, u64)
             requires { seat.home ≡ lock.now }
             ensures { HasRaised seat result.0 result.1 }
         { raise_late(rt, lock, seat) },
-        move || -> (Seat<u64>, u64)
+        move || -> (Seat<Number>, u64)
             requires { other.home ≡ lock.now }
             ensures { HasAwaited other result.0 result.1 }
         { raise_next(rt, lock, other) },

@@ -1,6 +1,6 @@
-use Rattle.zot_turn.specs.declared.tests.row.Row.{Row}
-use Rattle.zot_turn.proofs.Counting.{paired, paired_home, inner_more}
-use Rattle.zot_turn.proofs.tests.row.visited_by_two.Goals as goal
+use Rattle.tests_turn.specs.declared.row.Row.{Row}
+use Rattle.tests_turn.proofs.Counting.{paired, paired_home, inner_more}
+use Rattle.tests_turn.proofs.row.visited_by_two.Goals as goal
 
 pub returns : goal.returns
 returns g c =

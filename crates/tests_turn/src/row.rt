@@ -1,18 +1,18 @@
 // A value that owns a seat of another shared value, and a job that takes a turn at that other in its own turn.
 ghost use Rattle.std.specs.Prelude.{◌≡◌, ◌≢◌, IfOk, IsSomeAnd};
-ghost use Rattle.zot_turn.specs.Raising.{HasMore, newcomer};
+ghost use Rattle.tests_turn.specs.Raising.{HasMore, newcomer};
 
-use super::counter::Raise;
-use crate::{Job, NoMemory, Object, Seat, SeatAt, Shared};
+use crate::counter::{Number, Raise};
 use std::alloc::Global;
 use std::sync::Wait;
 use std::thread;
 use std::thread::Threads;
+use zot_turn::{Job, NoMemory, Object, Seat, SeatAt, Shared};
 
 /// What owns a seat of the shared number.
 #[derive(Drop)]
 pub struct Row {
-    pub seat: SeatAt<u64, u64>,
+    pub seat: SeatAt<Number, u64>,
 }
 
 impl Object for Row {
@@ -29,7 +29,7 @@ impl Object for Row {
 #[derive(Drop)]
 pub struct Visit<'a, R> {
     pub rt: &'a R,
-    pub numbers: &'a Shared<u64>,
+    pub numbers: &'a Shared<Number>,
     pub made: u64,
 }
 
@@ -53,7 +53,7 @@ impl<'a, R: Wait> Job<Row> for Visit<'a, R> {
 fn visit_once<R: Wait>(
     rt: &R,
     rows: &Shared<Row>,
-    numbers: &Shared<u64>,
+    numbers: &Shared<Number>,
     mut visitor: Seat<Row>,
 ) -> Seat<Row>
     requires home { visitor.home ≡ rows.now }
@@ -74,7 +74,7 @@ fn visited_by_two<R: Threads + Wait + Sync>(
     rt: &R,
     rows: Shared<Row>,
     mut visitor: Seat<Row>,
-    numbers: &Shared<u64>,
+    numbers: &Shared<Number>,
 ) -> Result<Row, NoMemory>
     requires first { visitor ≡ newcomer rows }
     requires inner { IsSomeAnd rows.opening (λ row. row.seat.home ≡ numbers.now) }
@@ -101,11 +101,11 @@ fn visited_by_two<R: Threads + Wait + Sync>(
 pub fn visited<R: Threads + Wait + Sync>(rt: &R, alloc: Global) -> Result<(u64, u64), NoMemory>
     ensures { IfOk result (λ r. (r.0 ≢ 0) × (r.1 ≡ 2)) }
 {
-    let (numbers, mut seat) = Shared::new(alloc, 0u64)?;
+    let (numbers, mut seat) = Shared::new(alloc, Number::zero())?;
     let inner = numbers.split(rt, &mut seat)?;
     let (rows, visitor) = Shared::new(alloc, Row { seat: inner })?;
     let Row { seat: inner } = visited_by_two(rt, rows, visitor, &numbers)?;
     let by = inner.number();
     numbers.join(&mut seat, inner);
-    Ok((by, numbers.close(seat)))
+    Ok((by, numbers.close(seat).value()))
 }
