@@ -1,7 +1,7 @@
 -- Calls that fail by a list of their numbers.
 use Rattle.std.specs.Prelude.{◌≡◌, ℕ, ◌+◌, ◌-◌, ◌^◌, ◌==◌, Bool, true, false, List, min, Result, OnOk, OnErr, if◌then◌else◌, is_err, ◌⊎◌}
 use Rattle.std.specs.List.{list_any}
-use Rattle.zot_outside.specs.declared.store_error.StoreError.{StoreError}
+use Rattle.zot_outside.specs.declared.stores.store_error.StoreError.{StoreError}
 use Rattle.zot_outside.specs.Faults.{OnFailed, UnlessFailed}
 
 -- the numbers, from 1, of the calls that are to fail, how many calls were made, and how many of them failed

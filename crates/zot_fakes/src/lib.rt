@@ -10,8 +10,6 @@ mod memory_store;
 mod object_map;
 mod steady_source;
 mod steady_store;
-#[cfg(test)]
-mod tests;
 
 pub use crate::hand_clock::HandClock;
 pub use crate::laws::empty_list_fails_none;

@@ -122,8 +122,8 @@ fn extend(alloc: Global, bytes: &mut Bytes, more: &[u8]) -> Result<(), AllocErro
     extended
 }
 
-// A text of its own.
-fn words(alloc: Global, text: &str) -> Result<Words, AllocError>
+/// A text of its own.
+pub fn words(alloc: Global, text: &str) -> Result<Words, AllocError>
     ensures { IfOk result (λ words. words ≡ text.now) }
 {
     Ok(Words::new(String::from_str(alloc, text)?))

@@ -1,11 +1,12 @@
 //! A store in memory that never fails.
-ghost use Rattle.std.specs.Prelude.{◌≡◌, ◌<◌, ◌^◌, ◌≤◌, IfOk, length, drop, map as each, min, string_bytes, take};
+ghost use Rattle.std.specs.Prelude.{◌≡◌, ◌<◌, ◌^◌, ◌≤◌, IfOk, OnErr, OnOk, length, drop, map as each, min, string_bytes, take};
 ghost use Rattle.std.specs.FinMap as map;
 ghost use Rattle.zot_fakes.specs.Given.{objects_of};
+ghost use Rattle.zot_outside.specs.Objects.{with_object};
 
-use crate::object_map::ObjectMap;
+use crate::object_map::{ObjectMap, words};
 use std::alloc::{AllocError, Global};
-use zot_digest::{Bytes, Words};
+use zot_digest::Bytes;
 use zot_outside::{Failed, Store, StoreError};
 
 /// A store in memory that never fails: its count of faults is 0 for good. It tells its objects.
@@ -38,6 +39,16 @@ impl SteadyStore {
         let objects = ObjectMap::of(alloc, objects)?;
         prove!(objects.len() <= isize::MAX as usize);
         Ok(SteadyStore { objects })
+    }
+
+    // Sets the object of a path. It fails only where memory does.
+    fn set(&mut self, alloc: Global, path: &str, bytes: Bytes) -> Result<(), AllocError>
+        ensures ok { OnOk result (steady_objects self.new ≡ with_object (steady_objects self.old) path.now bytes) }
+        ensures err { OnErr result (steady_objects self.new ≡ steady_objects self.old) }
+    {
+        self.objects.set(words(alloc, path)?, bytes)?;
+        prove!(self.objects.len() <= isize::MAX as usize);
+        Ok(())
     }
 }
 
@@ -72,10 +83,8 @@ impl Store for SteadyStore {
     }
 
     fn put(&mut self, alloc: Global, path: &str, bytes: &[u8]) -> Result<(), StoreError> {
-        let path = Words::new(String::from_str(alloc, path)?);
         let bytes = Bytes::new(Vec::from_slice(alloc, bytes)?);
-        self.objects.set(path, bytes)?;
-        prove!(self.objects.len() <= isize::MAX as usize);
+        self.set(alloc, path, bytes)?;
         Ok(())
     }
 
@@ -90,9 +99,7 @@ impl Store for SteadyStore {
             Some(bytes) => bytes.copy(alloc)?,
             None => return Err(StoreError::Missing),
         };
-        let path = Words::new(String::from_str(alloc, to)?);
-        self.objects.set(path, bytes)?;
-        prove!(self.objects.len() <= isize::MAX as usize);
+        self.set(alloc, to, bytes)?;
         Ok(())
     }
 

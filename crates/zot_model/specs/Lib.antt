@@ -9,5 +9,6 @@ pub mod Reply
 pub mod State
 pub mod Uploads
 pub mod Valid
+pub mod Values
 pub use Rattle.zot_digest.specs.ByteMap
 pub use Rattle.zot_digest.specs.Digest

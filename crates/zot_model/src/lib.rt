@@ -4,6 +4,7 @@
 mod call;
 mod code;
 mod code_row;
+mod copies;
 mod detail;
 mod laws;
 mod limits;
@@ -17,6 +18,7 @@ mod span;
 mod stored;
 #[cfg(test)]
 mod tests;
+mod values;
 
 pub use crate::call::Call;
 pub use crate::code::Code;
@@ -30,3 +32,4 @@ pub use crate::request::Request;
 pub use crate::row::{RowCall, RowReply};
 pub use crate::span::Span;
 pub use crate::stored::Stored;
+pub use crate::values::{has_values, real_values};

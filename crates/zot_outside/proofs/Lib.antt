@@ -1,5 +1,6 @@
-pub mod ObjectLemmas
 pub mod FolderLemmas
 pub mod ListingLemmas
+pub mod MomentLemmas
+pub mod ObjectLemmas
 mod PathLemmas
 pub mod StreamLemmas

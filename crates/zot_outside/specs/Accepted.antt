@@ -1,7 +1,7 @@
 -- What a listener found.
 use Rattle.std.specs.Prelude.{◌≡◌, ℕ, ⊤}
-use Rattle.zot_outside.specs.declared.accepted.Accepted.{Accepted}
-use Rattle.zot_outside.specs.declared.accepted.Accepted.TheVariants.{Stream, Quiet}
+use Rattle.zot_outside.specs.declared.sockets.accepted.Accepted.{Accepted}
+use Rattle.zot_outside.specs.declared.sockets.accepted.Accepted.TheVariants.{Stream, Quiet}
 
 -- a fact for the member of a connection, where there is one
 abbrev pub IfStream : {C K : Type 0} → Accepted C K → (ℕ → Type 0) → Type 0

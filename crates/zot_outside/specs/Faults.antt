@@ -1,7 +1,7 @@
 -- Counts of faults: what a call of the outside says of its object's count.
 use Rattle.std.specs.Prelude.{◌≡◌, ℕ, ◌+◌, ◌-◌, ◌^◌, ◌≤◌, min, ⊤, Result, Ok, Err, OnOk, OnErr}
-use Rattle.zot_outside.specs.declared.store_error.StoreError.{StoreError}
-use Rattle.zot_outside.specs.declared.store_error.StoreError.TheVariants.{Missing, Failed, NoMemory}
+use Rattle.zot_outside.specs.declared.stores.store_error.StoreError.{StoreError}
+use Rattle.zot_outside.specs.declared.stores.store_error.StoreError.TheVariants.{Missing, Failed, NoMemory}
 
 -- a count has risen, or stands at the end of 64 bits
 abbrev pub Rose : ℕ → ℕ → Type 0

@@ -20,6 +20,11 @@ IsChild folder path = (name : List ℕ) × All (λ b. b ≢ 47) name × IsEntry 
 abbrev pub IsFilePath : List ℕ → Type 0
 IsFilePath path = (front : List ℕ) → path ≢ front ++ 47 ∷ []
 
+-- a path is that of a file, and greater than another
+pub record IsFileAbove (bound path : List ℕ) : Type 0 where
+  pub above : path_cmp bound path ≡ Less
+  pub file : IsFilePath path
+
 -- a folder is another one or lies below it
 abbrev pub LiesIn : List ℕ → List ℕ → Type 0
 LiesIn above folder = (above ≡ []) ⊎ (folder ≡ above) ⊎ ((rest : List ℕ) × (folder ≡ above ++ 47 ∷ rest))

@@ -1,6 +1,6 @@
 -- Where a folder keeps an object.
 use Rattle.std.specs.Prelude.{◌≡◌, ℕ, true, List, ◌∷◌, ◌++◌, string_bytes}
-use Rattle.zot_outside.specs.declared.place.Place.{Place}
+use Rattle.zot_outside.specs.declared.stores.place.Place.{Place}
 use Rattle.zot_outside.specs.Paths.{is_object_path}
 
 -- the file of a path's object below a root, and beside it the new one, whose name begins with a dot, so that no object has it

@@ -1,7 +1,7 @@
 -- A body in chunks, piece by piece.
 use Rattle.std.specs.declared.alloc.Global.{Global}
 use Rattle.std.proofs.Common.{◌≡◌, ◌⊎◌, ℕ, true, false, List, [], ◌++◌, length, take, drop, Option, inl, inr, sym, ap, ◌∙◌, arith}
-use Rattle.std.specs.Prelude.{Vec, Some}
+use Rattle.std.specs.Prelude.{Some}
 use Rattle.std.proofs.lemmas.List.{append_assoc, append-nil, drop_all}
 use Rattle.zot_head.specs.declared.chunk_error.ChunkError.{ChunkError}
 use Rattle.zot_head.specs.declared.chunk_error.ChunkError.TheVariants as errors
@@ -14,12 +14,13 @@ use Rattle.zot_head.specs.Progress.{Advances, AnswersErr, AnswersOk, Progress, S
 use Rattle.zot_head.proofs.ProgressLemmas.{behind-append, behind-nil}
 use Rattle.zot_model.specs.declared.reply.Reply.{Reply}
 use Rattle.zot_model.specs.Valid.{body_limit}
-use Rattle.zot_session.specs.declared.body.Body.TheVariants as bodies
-use Rattle.zot_session.specs.Receiving.{Bodies, BodyIs, Came, broken_as}
-use Rattle.zot_session.specs.Waiting.{Waiting}
+use Rattle.zot_session.specs.Messages.{refused_as}
+use Rattle.zot_session.specs.Receiving.{BodyCame, BodyIs, BodyRefused, Came, broken_as}
+use Rattle.zot_session.specs.Waiting.{KeepsRoom, Waiting, held}
 use Rattle.zot_session.proofs.ReceiveLemmas.{came_pass, passes}
+use Rattle.zot_session.proofs.RoomLemmas.{room_pass}
 
--- what was passed over of a body in chunks gave out these bytes, and the reader goes on behind it
+-- what was passed over of a body in chunks gave out these bytes, and the reader goes on after it
 abbrev pub ReadSoFar : List ℕ → List ℕ → Progress → Type 0
 ReadSoFar passed given reader = (more : List ℕ) → chunked body_limit (passed ++ more) ≡ behind given (reading reader more)
 
@@ -60,29 +61,38 @@ read_all : (was mid : Waiting) (passed came given : List ℕ) (reader : Progress
 read_all was mid passed came given reader split h = ap (chunked body_limit) split ∙ h mid.bytes
 
 -- the last piece was taken
-pub chunks_whole : (was mid is : Waiting) (passed came before : List ℕ) (left left' : Option (List ℕ)) (reader : Progress) (fed : Fed) (body : Vec ℕ Global) → Came was mid passed came left left' → ReadSoFar passed before reader
-    → AnswersOk (reading reader mid.bytes) mid.bytes fed before body.items → fed.done ≡ true → is ≡ record mid { bytes = drop fed.taken mid.bytes } → Bodies (bodies.Whole body) framings.Chunked was is left left'
-chunks_whole was mid is passed came before left left' reader fed body c h a done same =
-    let rest : is.bytes ≡ drop fed.taken mid.bytes = ap (λ (w : Waiting). w.bytes) same in
-    let all = read_all was mid passed came before reader c.bytes h ∙ whole_by (reading reader mid.bytes) mid.bytes fed before body.items a done ∙ ap (Whole body.items) (sym rest) in (
-      passed ++ take fed.taken mid.bytes,
-      came,
-      came_pass was mid is passed came (take fed.taken mid.bytes) left left' c (passes mid is fed.taken same) (ap (λ (w : Waiting). w.taken) same),
-      λ head. ap (with_chunks head) all,
-    )
+pub chunks_whole : {was mid : Waiting} {passed came : List ℕ} {left left' : Option (List ℕ)} (is : Waiting) (before after : List ℕ) (reader : Progress) (fed : Fed) → Came was mid passed came left left' → ReadSoFar passed before reader
+    → AnswersOk (reading reader mid.bytes) mid.bytes fed before after → fed.done ≡ true → is.bytes ≡ drop fed.taken mid.bytes → is.taken ≡ mid.taken → BodyCame after framings.Chunked was is left left'
+chunks_whole {was} {mid} {passed} {came} is before after reader fed c h a done rest taken =
+    let all = read_all was mid passed came before reader c.bytes h ∙ whole_by (reading reader mid.bytes) mid.bytes fed before after a done ∙ ap (Whole after) (sym rest) in record {
+      passed = passed ++ take fed.taken mid.bytes;
+      came = came;
+      pieces = came_pass is (take fed.taken mid.bytes) c (passes mid is fed.taken rest) taken;
+      whole = λ head. ap (with_chunks head) all;
+    }
 
--- a piece more was taken
-pub chunks_passed : (was mid is : Waiting) (passed came before after : List ℕ) (left left' : Option (List ℕ)) (reader : Progress) (fed : Fed) → Came was mid passed came left left' → ReadSoFar passed before reader
-    → AnswersOk (reading reader mid.bytes) mid.bytes fed before after → fed.done ≡ false → is ≡ record mid { bytes = drop fed.taken mid.bytes }
-    → Came was is (passed ++ mid.bytes) came left left' × BodyIs framings.Chunked (was.bytes ++ came) (λ head. fronts.Partial) × (fed.taken ≡ length mid.bytes)
-chunks_passed was mid is passed came before after left left' reader fed c h a done same =
+-- A piece was read that doesn't end the body: all that waited was passed over.
+pub record Passes (was is : Waiting) (passed came piece : List ℕ) (taken : ℕ) (left left' : Option (List ℕ)) : Type 0 where
+  pub pieces : Came was is (passed ++ piece) came left left'
+  pub room : KeepsRoom was is
+  pub partial : BodyIs framings.Chunked (was.bytes ++ came) (λ head. fronts.Partial)
+  pub none : is.bytes ≡ []
+  pub all : taken ≡ length piece
+
+pub chunks_passed : {was mid : Waiting} {passed came : List ℕ} {left left' : Option (List ℕ)} (is : Waiting) (before after : List ℕ) (reader : Progress) (fed : Fed) → Came was mid passed came left left' → KeepsRoom was mid
+    → ReadSoFar passed before reader → AnswersOk (reading reader mid.bytes) mid.bytes fed before after → fed.done ≡ false → is.bytes ≡ drop fed.taken mid.bytes → is.taken ≡ mid.taken → held is ≡ held mid
+    → Passes was is passed came mid.bytes fed.taken left left'
+chunks_passed {was} {mid} {passed} {came} is before after reader fed c room h a done rest taken same =
     let u = unfinished_by (reading reader mid.bytes) mid.bytes fed before after a done in
+    let every = u.1 in
     let all = read_all was mid passed came before reader c.bytes h ∙ u.0 in
-    let none : is.bytes ≡ [] = ap (λ (w : Waiting). w.bytes) same ∙ drop_all fed.taken mid.bytes (omega (arith, u.1)) in (
-      came_pass was mid is passed came mid.bytes left left' c (sym (append-nil mid.bytes) ∙ ap (λ b. mid.bytes ++ b) (sym none)) (ap (λ (w : Waiting). w.taken) same),
-      λ head. ap (with_chunks head) all,
-      u.1,
-    )
+    let nothing : is.bytes ≡ [] = rest ∙ drop_all fed.taken mid.bytes (omega arith) in record {
+      pieces = came_pass is mid.bytes c (sym (append-nil mid.bytes) ∙ ap (λ b. mid.bytes ++ b) (sym nothing)) taken;
+      room = room_pass is fed.taken room rest same;
+      partial = λ head. ap (with_chunks head) all;
+      none = nothing;
+      all = every;
+    }
 
 -- the body is broken, or memory ran out
 broken_front : (read : ChunkBody) (error : ChunkError) (was mid : Waiting) (passed came before after : List ℕ) (reader : Progress) → was.bytes ++ came ≡ passed ++ mid.bytes → ReadSoFar passed before reader
@@ -91,23 +101,21 @@ broken_front read error was mid passed came before after reader split h is a =
     let all = read_all was mid passed came before reader split h ∙ ap (behind before) is ∙ broken_by read error before after a in
     λ head. ap (with_chunks head) all
 
--- what came of a body that is broken: its refusal, or a connection that ends for want of memory
-pub breaks : (error : ChunkError) (reply : Reply) (was mid : Waiting) (passed came : List ℕ) (left left' : Option (List ℕ)) → Came was mid passed came left left'
-    → (BodyIs framings.Chunked (was.bytes ++ came) (λ head. fronts.Refused (refusal_of error))) ⊎ (error ≡ errors.NoMemory) → broken_as error ≡ Some reply → Bodies (bodies.Refused reply) framings.Chunked was mid left left'
-breaks errors.Bad reply was mid passed came left left' c (inl h) is = (passed, came, c, fronts.HeadInvalid, h, cc is)
-breaks errors.TooLong reply was mid passed came left left' c (inl h) is = (passed, came, c, fronts.HeadTooLong, h, cc is)
-breaks errors.TooLarge reply was mid passed came left left' c (inl h) is = (passed, came, c, fronts.SizeInvalid, h, cc is)
-breaks errors.NoMemory reply was mid passed came left left' c h is = absurd (cc is)
-breaks errors.Bad reply was mid passed came left left' c (inr h) is = absurd (cc h)
-breaks errors.TooLong reply was mid passed came left left' c (inr h) is = absurd (cc h)
-breaks errors.TooLarge reply was mid passed came left left' c (inr h) is = absurd (cc h)
+-- the reply to a message whose body is broken is the refusal of its cause
+broken_reply : (error : ChunkError) (reply : Reply) → broken_as error ≡ Some reply → (reply ≡ refused_as (refusal_of error)) × (error ≡ errors.NoMemory → ⊥)
+broken_reply errors.Bad reply is = (cc is, λ e. cc e)
+broken_reply errors.TooLong reply is = (cc is, λ e. cc e)
+broken_reply errors.TooLarge reply is = (cc is, λ e. cc e)
+broken_reply errors.NoMemory reply is = (absurd (cc is), λ e. cc is)
 
-pub chunks_broken : (error : ChunkError) (reply : Reply) (was mid : Waiting) (passed came before after : List ℕ) (left left' : Option (List ℕ)) (reader : Progress) → Came was mid passed came left left' → ReadSoFar passed before reader
+pub chunks_broken : {was mid : Waiting} {passed came : List ℕ} {left left' : Option (List ℕ)} (error : ChunkError) (reply : Reply) (before after : List ℕ) (reader : Progress) → Came was mid passed came left left' → ReadSoFar passed before reader
     → ((more : List ℕ) → AnswersErr (reading reader (mid.bytes ++ more)) error before after ⊎ ((error ≡ errors.NoMemory) × Stops (reading reader (mid.bytes ++ more)) before after))
-    → broken_as error ≡ Some reply → Bodies (bodies.Refused reply) framings.Chunked was mid left left'
-chunks_broken error reply was mid passed came before after left left' reader c h a is = breaks error reply was mid passed came left left' c (by (a [])) is
+    → broken_as error ≡ Some reply → BodyRefused reply framings.Chunked was mid left left'
+chunks_broken {was} {mid} {passed} {came} error reply before after reader c h a is =
+    let by = broken_reply error reply is in
+    record { passed = passed; came = came; pieces = c; why = refusal_of error; refused = front (a []); reply_is = by.0 }
   where
-    by : AnswersErr (reading reader (mid.bytes ++ [])) error before after ⊎ ((error ≡ errors.NoMemory) × Stops (reading reader (mid.bytes ++ [])) before after)
-        → (BodyIs framings.Chunked (was.bytes ++ came) (λ head. fronts.Refused (refusal_of error))) ⊎ (error ≡ errors.NoMemory)
-    by (inl k) = inl (broken_front (reading reader (mid.bytes ++ [])) error was mid passed came before after reader c.bytes h (ap (reading reader) (sym (append-nil mid.bytes))) k)
-    by (inr k) = inr k.0
+    front : AnswersErr (reading reader (mid.bytes ++ [])) error before after ⊎ ((error ≡ errors.NoMemory) × Stops (reading reader (mid.bytes ++ [])) before after)
+        → BodyIs framings.Chunked (was.bytes ++ came) (λ head. fronts.Refused (refusal_of error))
+    front (inl k) = broken_front (reading reader (mid.bytes ++ [])) error was mid passed came before after reader c.bytes h (ap (reading reader) (sym (append-nil mid.bytes))) k
+    front (inr k) = absurd ((broken_reply error reply is).1 k.0)

@@ -1,6 +1,6 @@
 -- The end of a connection is that of its bytes.
 use Rattle.std.proofs.Common.{◌≡◌, ℕ, ◌+◌, ◌-◌, ◌<◌, ◌≤◌, ◌⊎◌, inl, inr, nat_le, Bool, true, false, List, [], ◌∷◌, ◌++◌, length, take, map, Option, Some, None, refl, sym, ap, ◌∙◌, subst, arith}
-use Rattle.std.specs.Prelude.{if◌then◌else◌, IfSome}
+use Rattle.std.specs.Prelude.{IfSome}
 use Rattle.std.proofs.lemmas.Bool.{le-leb, leb-true}
 use Rattle.std.proofs.lemmas.List.{append-nil, length-append, take_all}
 use Rattle.std.proofs.Math.Seq.{take-append-add}
@@ -9,12 +9,19 @@ use Rattle.zot_head.specs.Front.{Front, Refusal}
 use Rattle.zot_head.proofs.FrontLemmas.{front_unique}
 use Rattle.zot_model.specs.Valid.{body_limit}
 use Rattle.zot_outside.specs.Streams.{IsOver, Takes}
+use Rattle.zot_session.specs.declared.cut.Cut.{Cut}
+use Rattle.zot_session.specs.declared.cut.Cut.TheVariants as cuts
 use Rattle.zot_session.specs.declared.end.End.{End}
 use Rattle.zot_session.specs.declared.end.End.TheVariants as ends
+use Rattle.zot_session.specs.declared.send_error.SendError.{SendError}
+use Rattle.zot_session.specs.declared.send_error.SendError.TheVariants as errors
+use Rattle.zot_session.specs.Cuts.{HasCut, budget, end_of}
+use Rattle.zot_session.specs.Ending.{Ending, EndsAfter, EndsCut, EndsUnsent, EndsWith, after, closed, cut_short, refused_there, unread, unsent, unsent_last, with_last}
 use Rattle.zot_session.specs.Ends.{EndsAs, EndsAt, HasFailed, end_over}
-use Rattle.zot_session.specs.Messages.{IsPartial, Message, Messages, is_blank, status_of}
-use Rattle.zot_session.specs.Session.{Ending, EndsBehind, EndsWith, Exchange, Served, StayOpen, behind, message_of, with_last}
-use Rattle.zot_session.specs.Waiting.{budget}
+use Rattle.zot_session.specs.Exchanges.{Exchange, StayOpen, message_of, spelled}
+use Rattle.zot_session.specs.Messages.{IsPartial, Message, Messages, status_of}
+use Rattle.zot_session.specs.Sending.{end_unsent}
+use Rattle.zot_session.specs.Session.{Served}
 use Rattle.zot_session.proofs.MessageLemmas.{Messages-last, Messages-more, map-push, refused_more, stands_more}
 
 not_le : (a b : ℕ) (t : Bool) → nat_le a b ≡ t → b < a → t ≡ false
@@ -24,7 +31,7 @@ not_le a b false e h = refl
 le_false : (a b : ℕ) → b < a → nat_le a b ≡ false
 le_false a b h = not_le a b (nat_le a b) refl h
 
--- nothing is left behind what was taken
+-- nothing is left after what was taken
 taken_all : (bytes taken : List ℕ) (left' : Option (List ℕ)) → Takes (Some bytes) taken left' → IsOver left' → bytes ≡ taken
 taken_all bytes taken None h over = cc h.2
 taken_all bytes taken (Some l) h over =
@@ -37,7 +44,7 @@ within_budget taken more h =
     let split : budget ≡ length taken + (budget - length taken) = omega arith in
     ap (λ k. take k (taken ++ more)) split ∙ take-append-add taken more (budget - length taken)
 
--- an end behind messages that leave the connection open is the end of all
+-- an end after messages that leave the connection open is the end of all
 ends_after : (full : Bool) (bytes rest : List ℕ) (exchanges : List Exchange) (more : List Message) (end : End) → Messages bytes (map message_of exchanges) rest → StayOpen exchanges → EndsAt full rest more end
     → EndsAt full bytes (map message_of exchanges ++ more) end
 ends_after full bytes rest [] more end h stay k = subst (λ b. EndsAt full b more end) (sym h) k
@@ -68,7 +75,7 @@ full_end bytes taken more rest exchanges is full all stay partial =
           (subst (λ f. EndsAt f taken (map message_of exchanges ++ []) ends.Budget) (sym le) (ends_after true taken rest exchanges [] ends.Budget all stay (inr (partial, refl))));
     }
 
--- a refusal, or a message that closes the connection, ends it whatever stands behind
+-- a refusal, or a message that closes the connection, ends it whatever stands after it
 decided_end : (bytes taken more rest : List ℕ) (exchanges : List Exchange) (last : List Message) (end : End) → bytes ≡ taken ++ more → length taken ≤ budget → Messages taken (map message_of exchanges) rest → StayOpen exchanges
     → ((full : Bool) (behind : List ℕ) → EndsAt full (rest ++ behind) last end) → EndsAs bytes end
 decided_end bytes taken more rest exchanges last end is within all stay ends_so =
@@ -79,50 +86,52 @@ decided_end bytes taken more rest exchanges last end is within all stay ends_so 
           (ends_after (nat_le budget (length bytes)) (taken ++ tail) (rest ++ tail) exchanges last end (Messages-more taken tail (map message_of exchanges) rest all) stay (ends_so (nat_le budget (length bytes)) tail));
     }
 
-blank_end : (rest : List ℕ) → is_blank rest ≡ true → ends.Closed ≡ end_over false rest
-blank_end rest h = sym (ap (λ b. if b then ends.Closed else ends.Torn (length rest)) h)
+-- the end of a connection that is cut is that of its bytes, unless something failed
+cut_ends : (end : End) (bytes taken rest text : List ℕ) (exchanges : List Exchange) (left' : Option (List ℕ)) → Takes (Some bytes) taken left' → Messages taken (map message_of exchanges) rest → StayOpen exchanges
+    → EndsCut end (length taken) rest left' text → ¬ HasFailed end → EndsAs bytes end
+cut_ends end bytes taken rest text exchanges left' reads all stay h sound = by h.cut h.cause h.end_is
+  where
+    by : (cut : Cut) → HasCut cut (length taken) left' → end ≡ end_of cut rest → EndsAs bytes end
+    by cuts.Over cause is = short_end bytes taken rest exchanges end (taken_all bytes taken left' reads cause.1) all stay cause.0 h.partial is
+    by cuts.Fault cause is = absurd (sound (inl is))
+    by cuts.Full cause is = subst (λ e. EndsAs bytes e) (sym is) (full_end bytes taken reads.0 rest exchanges reads.1 cause all stay h.partial)
+    by cuts.NoMemory cause is = absurd (sound (inr (inr is)))
 
-torn_end : (rest : List ℕ) (n : ℕ) → is_blank rest ≡ false → n ≡ length rest → ends.Torn n ≡ end_over false rest
-torn_end rest n h is = ap (λ k. ends.Torn k) is ∙ sym (ap (λ b. if b then ends.Closed else ends.Torn (length rest)) h)
+-- what isn't written whole is a failure
+unsent_fails : (end : End) (whole text : List ℕ) → EndsUnsent end whole text → HasFailed end
+unsent_fails end whole text h = by h.error h.end_is
+  where
+    by : (error : SendError) → end ≡ end_unsent error → HasFailed end
+    by errors.Fault is = inr (inl is)
+    by errors.NoMemory is = inr (inr is)
 
--- an end behind the exchanges is that of the bytes
-behind_ends : (end : End) (bytes taken rest text : List ℕ) (exchanges : List Exchange) (left' : Option (List ℕ)) → Takes (Some bytes) taken left' → length taken ≤ budget → Messages taken (map message_of exchanges) rest
-    → StayOpen exchanges → EndsBehind end (length taken) rest left' text → ¬ HasFailed end → EndsAs bytes end
-behind_ends ends.Closed bytes taken rest text exchanges left' reads within all stay h sound =
-    short_end bytes taken rest exchanges ends.Closed (taken_all bytes taken left' reads h.2) all stay h.0.room h.0.partial (blank_end rest h.1)
-behind_ends (ends.Refused status) bytes taken rest text exchanges left' reads within all stay h sound =
-    decided_end bytes taken reads.0 rest exchanges [] (ends.Refused status) reads.1 within all stay (λ full behind_. inl (h.0, refused_more rest behind_ h.0 h.1, ap (λ s. ends.Refused s) h.2))
-behind_ends (ends.Torn n) bytes taken rest text exchanges left' reads within all stay h sound =
-    short_end bytes taken rest exchanges (ends.Torn n) (taken_all bytes taken left' reads h.3) all stay h.0.room h.0.partial (torn_end rest n h.1 h.2)
-behind_ends ends.ReadFault bytes taken rest text exchanges left' reads within all stay h sound = absurd (sound tt)
-behind_ends ends.WriteFault bytes taken rest text exchanges left' reads within all stay h sound = absurd (sound tt)
-behind_ends ends.Budget bytes taken rest text exchanges left' reads within all stay h sound = full_end bytes taken reads.0 rest exchanges reads.1 h.1 all stay h.0
-behind_ends ends.NoMemory bytes taken rest text exchanges left' reads within all stay h sound = absurd (sound tt)
+-- an end after the exchanges is that of the bytes
+after_ends : (end : End) (bytes taken rest text : List ℕ) (exchanges : List Exchange) (left' : Option (List ℕ)) → Takes (Some bytes) taken left' → length taken ≤ budget → Messages taken (map message_of exchanges) rest
+    → StayOpen exchanges → EndsAfter end (length taken) rest left' text → ¬ HasFailed end → EndsAs bytes end
+after_ends end bytes taken rest text exchanges left' reads within all stay (cut_short h) sound = cut_ends end bytes taken rest text exchanges left' reads all stay h sound
+after_ends end bytes taken rest text exchanges left' reads within all stay (refused_there h) sound =
+    decided_end bytes taken reads.0 rest exchanges [] end reads.1 within all stay (λ full more. inl (h.why, refused_more rest more h.why h.is_refused, h.end_is))
+after_ends end bytes taken rest text exchanges left' reads within all stay (unsent whole says h) sound = absurd (sound (unsent_fails end whole text h))
+after_ends end bytes taken rest text exchanges left' reads within all stay (unread none is) sound = absurd (sound (inr (inr is)))
 
 -- an end with the last exchange is that of the bytes
 last_ends : (end : End) (bytes taken rest text : List ℕ) (earlier : List Exchange) (last : Exchange) (left' : Option (List ℕ)) → Takes (Some bytes) taken left' → length taken ≤ budget
     → Messages taken (map message_of (earlier ++ last ∷ [])) rest → StayOpen earlier → EndsWith end last text → ¬ HasFailed end → EndsAs bytes end
-last_ends ends.Closed bytes taken rest text earlier last left' reads within all stay h sound =
+last_ends end bytes taken rest text earlier last left' reads within all stay (closed closing whole is) sound =
     let parts = Messages-last taken (map message_of earlier) (message_of last) rest (subst (λ messages. Messages taken messages rest) (map-push earlier last) all) in
-    decided_end bytes taken reads.0 parts.0 earlier (message_of last ∷ []) ends.Closed reads.1 within parts.1 stay
-    (λ full behind_. (rest ++ behind_, stands_more parts.0 behind_ (message_of last) rest parts.2, inl (h.0, refl, refl)))
-last_ends (ends.Refused status) bytes taken rest text earlier last left' reads within all stay h sound = absurd h
-last_ends (ends.Torn n) bytes taken rest text earlier last left' reads within all stay h sound = absurd h
-last_ends ends.ReadFault bytes taken rest text earlier last left' reads within all stay h sound = absurd h
-last_ends ends.WriteFault bytes taken rest text earlier last left' reads within all stay h sound = absurd (sound tt)
-last_ends ends.Budget bytes taken rest text earlier last left' reads within all stay h sound = absurd h
-last_ends ends.NoMemory bytes taken rest text earlier last left' reads within all stay h sound = absurd (sound tt)
+    decided_end bytes taken reads.0 parts.0 earlier (message_of last ∷ []) end reads.1 within parts.1 stay (λ full more. (rest ++ more, stands_more parts.0 more (message_of last) rest parts.2, inl (closing, refl, is)))
+last_ends end bytes taken rest text earlier last left' reads within all stay (unsent_last h) sound = absurd (sound (unsent_fails end (spelled last) text h))
 
 ending_ends : (end : End) (bytes taken rest sent : List ℕ) (exchanges : List Exchange) (left' : Option (List ℕ)) → Takes (Some bytes) taken left' → length taken ≤ budget → Messages taken (map message_of exchanges) rest
     → Ending end (length taken) exchanges rest left' sent → ¬ HasFailed end → EndsAs bytes end
-ending_ends end bytes taken rest sent exchanges left' reads within all (behind text stay is h) sound = behind_ends end bytes taken rest text exchanges left' reads within all stay h sound
+ending_ends end bytes taken rest sent exchanges left' reads within all (after text stay is h) sound = after_ends end bytes taken rest text exchanges left' reads within all stay h sound
 ending_ends end bytes taken rest sent exchanges left' reads within all (with_last earlier last text is stay sent_is h) sound =
     last_ends end bytes taken rest text earlier last left' reads within (subst (λ e. Messages taken (map message_of e) rest) is all) stay h sound
 
 -- where the source tells its bytes and nothing failed, the end is that of the bytes
-pub of_bytes : (history : List Exchange → Type 0) (end : End) (left left' held held' : Option (List ℕ)) → Served history end left left' held held' → ¬ HasFailed end → IfSome left (λ bytes. EndsAs bytes end)
-of_bytes history end None left' held held' s sound = tt
-of_bytes history end (Some bytes) left' held held' s sound = ending_ends end bytes s.taken s.rest s.sent s.exchanges left' s.reads s.within s.messages s.ending sound
+pub of_bytes : {history : List Exchange → Type 0} {end : End} {left left' held held' : Option (List ℕ)} → Served history end left left' held held' → ¬ HasFailed end → IfSome left (λ bytes. EndsAs bytes end)
+of_bytes {left = None} s sound = tt
+of_bytes {end = end} {left = Some bytes} {left' = left'} s sound = ending_ends end bytes s.taken s.rest s.sent s.exchanges left' s.reads s.within s.messages s.ending sound
 
 -- one thing stands at the front
 same_front : (bytes : List ℕ) (one other : Front) → fronts.IsFront body_limit bytes one → fronts.IsFront body_limit bytes other → one ≡ other

@@ -1,8 +1,8 @@
 -- What stands at the front of a connection's bytes, by how far a head goes in them.
-use Rattle.std.proofs.Common.{◌≡◌, ◌≢◌, ℕ, ◌+◌, ◌≤◌, ltb, eqb, cond, Bool, true, false, List, [], ◌++◌, length, take, drop, Some, inl, inr, refl, sym, ap, ◌∙◌, subst, arith}
+use Rattle.std.proofs.Common.{◌≡◌, ◌≢◌, ℕ, ◌+◌, ◌≤◌, ltb, eqb, nat_le, cond, Bool, true, false, List, [], ◌++◌, length, take, drop, Some, inl, inr, refl, sym, ap, ◌∙◌, subst, arith}
 use Rattle.std.specs.Prelude.{option_map}
 use Rattle.std.proofs.lemmas.Bool.Decides.{nat_tests}
-use Rattle.std.proofs.lemmas.List.{append-nil, drop_all, drop_at, length-take, take-append-drop, take_at}
+use Rattle.std.proofs.lemmas.List.{append-nil, drop_all, drop_at, length-take, length-take-le, take-append-drop, take-append-le, take_at}
 use Rattle.zot_head.specs.declared.framing.Framing.{Framing}
 use Rattle.zot_head.specs.declared.framing.Framing.TheVariants as framings
 use Rattle.zot_head.specs.declared.found.Found.{Found}
@@ -18,8 +18,8 @@ use Rattle.zot_head.proofs.FrontLemmas.{head_unique}
 use Rattle.zot_head.proofs.SentLemmas.{only_sent_is_read}
 use Rattle.zot_head.proofs.LineLemmas.{IsSettled, ends_found, extent_cut, extent_ends_at, extent_stays, extent_within, head_end_is}
 use Rattle.zot_model.specs.Valid.{body_limit}
-use Rattle.zot_session.specs.Messages.{HasHead, IsPartial, IsRead, IsRefused, Owes, continue_of, is_blank}
-use Rattle.zot_session.specs.Receiving.{IsHeading}
+use Rattle.zot_session.specs.Messages.{HasHead, IsPartial, IsRead, IsRefused, Owes, continue_of, is_blank, refused_as}
+use Rattle.zot_session.specs.Receiving.{HeadDeclined, IsHeading}
 
 -- ---- what was found
 
@@ -46,34 +46,43 @@ owes_none : (bytes : List ℕ) (e : Extent) → extent head_end head_limit bytes
 owes_none bytes e h k = inr (λ head has. k has.size (sym h ∙ has.ends), refl)
 
 -- a head that isn't whole yet
-pub found_more : (bytes : List ℕ) (found : Found) → found ≡ found_of (extent head_end head_limit bytes) → found ≡ founds.More → IsPartial bytes × Owes bytes []
-found_more bytes found h k =
-    let goes = of_more (extent head_end head_limit bytes) (sym k ∙ h) in
-    (subst (λ e. IsFrontBy body_limit bytes e fronts.Partial) (sym goes) refl, owes_none bytes Goes goes (λ n e. cc e))
+pub found_goes : (bytes : List ℕ) (found : Found) → found ≡ found_of (extent head_end head_limit bytes) → found ≡ founds.More → extent head_end head_limit bytes ≡ Goes
+found_goes bytes found h k = of_more (extent head_end head_limit bytes) (sym k ∙ h)
+
+pub goes_partial : (bytes : List ℕ) → extent head_end head_limit bytes ≡ Goes → IsPartial bytes × Owes bytes []
+goes_partial bytes goes = (subst (λ e. IsFrontBy body_limit bytes e fronts.Partial) (sym goes) refl, owes_none bytes Goes goes (λ n e. cc e))
 
 -- a head that is too long
-pub found_too_long : (bytes : List ℕ) (found : Found) → found ≡ found_of (extent head_end head_limit bytes) → found ≡ founds.TooLong → IsRefused bytes fronts.HeadTooLong × Owes bytes []
+pub found_too_long : (bytes : List ℕ) (found : Found) → found ≡ found_of (extent head_end head_limit bytes) → found ≡ founds.TooLong → HeadDeclined (refused_as fronts.HeadTooLong) bytes
 found_too_long bytes found h k =
-    let passes = of_too_long (extent head_end head_limit bytes) (sym k ∙ h) in
-    (subst (λ e. IsFrontBy body_limit bytes e (fronts.Refused fronts.HeadTooLong)) (sym passes) refl, owes_none bytes Passes passes (λ n e. cc e))
+    let passes = of_too_long (extent head_end head_limit bytes) (sym k ∙ h) in record {
+      why = fronts.HeadTooLong;
+      refused = subst (λ e. IsFrontBy body_limit bytes e (fronts.Refused fronts.HeadTooLong)) (sym passes) refl;
+      owed = owes_none bytes Passes passes (λ n e. cc e);
+      reply_is = refl;
+    }
 
 -- the head that stands there is the one whose end was found
 same_size : (bytes : List ℕ) (n m : ℕ) → extent head_end head_limit bytes ≡ Ends n → extent head_end head_limit bytes ≡ Ends m → m ≡ n
 same_size bytes n m h k = let e : Ends m ≡ Ends n = sym k ∙ h in cc e
 
 -- a head with too many lines
-pub crowded_head : (bytes : List ℕ) (n : ℕ) → extent head_end head_limit bytes ≡ Ends n → IsCrowded (take n bytes) → IsRefused bytes fronts.HeadTooLong × Owes bytes []
-crowded_head bytes n h c = (
-  subst (λ e. IsFrontBy body_limit bytes e (fronts.Refused fronts.HeadTooLong)) (sym h) (crowded c refl),
-  inr (λ head has. has.is.few_lines (subst (λ m. IsCrowded (take m bytes)) (sym (same_size bytes n has.size h has.ends)) c), refl),
-)
+pub crowded_head : (bytes : List ℕ) (n : ℕ) → extent head_end head_limit bytes ≡ Ends n → IsCrowded (take n bytes) → HeadDeclined (refused_as fronts.HeadTooLong) bytes
+crowded_head bytes n h c = record {
+  why = fronts.HeadTooLong;
+  refused = subst (λ e. IsFrontBy body_limit bytes e (fronts.Refused fronts.HeadTooLong)) (sym h) (crowded c refl);
+  owed = inr (λ head has. has.is.few_lines (subst (λ m. IsCrowded (take m bytes)) (sym (same_size bytes n has.size h has.ends)) c), refl);
+  reply_is = refl;
+}
 
 -- bytes that are no head
-pub invalid_head : (bytes : List ℕ) (n : ℕ) → extent head_end head_limit bytes ≡ Ends n → IsNoHead (take n bytes) → IsRefused bytes fronts.HeadInvalid × Owes bytes []
-invalid_head bytes n h c = (
-  subst (λ e. IsFrontBy body_limit bytes e (fronts.Refused fronts.HeadInvalid)) (sym h) (invalid c refl),
-  inr (λ head has. c.none head (subst (λ m. IsHead (take m bytes) head) (same_size bytes n has.size h has.ends) has.is), refl),
-)
+pub invalid_head : (bytes : List ℕ) (n : ℕ) → extent head_end head_limit bytes ≡ Ends n → IsNoHead (take n bytes) → HeadDeclined (refused_as fronts.HeadInvalid) bytes
+invalid_head bytes n h c = record {
+  why = fronts.HeadInvalid;
+  refused = subst (λ e. IsFrontBy body_limit bytes e (fronts.Refused fronts.HeadInvalid)) (sym h) (invalid c refl);
+  owed = inr (λ head has. c.none head (subst (λ m. IsHead (take m bytes) head) (same_size bytes n has.size h has.ends) has.is), refl);
+  reply_is = refl;
+}
 
 pub head_within : (bytes : List ℕ) (n : ℕ) → extent head_end head_limit bytes ≡ Ends n → n ≤ length bytes
 head_within bytes n h = (extent_within head_end head_limit n bytes head_end_is h).1
@@ -93,9 +102,29 @@ heading_cut bytes n head h is =
       is = is;
     }
 
--- ---- behind a whole head
+-- a head that ends with more bytes than those in which none ended goes beyond those
+pub ends_beyond : (before more : List ℕ) (n : ℕ) → extent head_end head_limit before ≡ Goes → extent head_end head_limit (before ++ more) ≡ Ends n → length before ≤ n
+ends_beyond before more n goes ends = go (nat_le (length before) n) refl
+  where
+    within : n ≤ length before → ⊥
+    within le =
+        let w = extent_within head_end head_limit n (before ++ more) head_end_is ends in
+        let limit = w.2 in
+        let size : length (take n before) ≡ n = length-take-le n before le in
+        let cut : take n (before ++ more) ≡ take n before = take-append-le n before more le in
+        let found : head_end (take n before) ≡ Some n = ap head_end (sym cut) ∙ extent_cut head_limit n (before ++ more) ends in
+        let again : extent head_end head_limit (take n before ++ drop n before) ≡ Ends (length (take n before)) =
+        extent_ends_at head_end head_limit (take n before) (drop n before) head_end_is (found ∙ ap Some (sym size)) (omega arith) in
+        let both : Goes ≡ Ends (length (take n before)) = sym goes ∙ subst (λ b. extent head_end head_limit b ≡ Ends (length (take n before))) (take-append-drop n before) again in
+        cc both
 
-heading_ends : (text more : List ℕ) (head : Head) → IsHeading text head → extent head_end head_limit (text ++ more) ≡ Ends (length text)
+    go : (t : Bool) → nat_le (length before) n ≡ t → length before ≤ n
+    go true e = grind (arith, nat_tests, e)
+    go false e = absurd (within (grind (arith, nat_tests, e)))
+
+-- ---- after a whole head
+
+pub heading_ends : (text more : List ℕ) (head : Head) → IsHeading text head → extent head_end head_limit (text ++ more) ≡ Ends (length text)
 heading_ends text more head h = extent_stays head_end head_limit text more head_end_is (subst IsSettled (sym h.ends) tt) ∙ h.ends
 
 pub heading_front : (text more : List ℕ) (head : Head) → IsHeading text head → IsFront body_limit (text ++ more) (with_body body_limit head head.framing more)
@@ -110,11 +139,11 @@ heading_has text more head h reads = record {
   reads = reads;
 }
 
--- what is owed behind a head whose body is read
+-- what is owed after a head whose body is read
 pub heading_owes : (text more : List ℕ) (head : Head) → IsHeading text head → IsRead head.framing → Owes (text ++ more) (continue_of head)
 heading_owes text more head h reads = inl (head, heading_has text more head h reads, refl)
 
--- and behind one whose body isn't
+-- and after one whose body isn't
 pub large_owes : (text more : List ℕ) (head : Head) → IsHeading text head → ¬ IsRead head.framing → Owes (text ++ more) []
 large_owes text more head h large =
     let size = λ (other : Head) (has : HasHead (text ++ more) other). same_size (text ++ more) (length text) has.size (heading_ends text more head h) has.ends in

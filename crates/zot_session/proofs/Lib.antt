@@ -1,10 +1,12 @@
-pub mod InboxLemmas
-pub mod MessageLemmas
-pub mod SessionLemmas
+pub mod BlankLemmas
+pub mod CauseLemmas
+pub mod ChunkLemmas
 pub mod EndLemmas
 pub mod HeadingLemmas
+pub mod LengthLemmas
+pub mod MessageLemmas
 pub mod ReceiveLemmas
-pub mod ChunkLemmas
+pub mod RoomLemmas
+pub mod SessionLemmas
 pub mod TurnLemmas
-pub mod BlankLemmas
 pub mod WireLemmas

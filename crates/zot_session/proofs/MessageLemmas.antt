@@ -1,4 +1,4 @@
--- The messages of a list of bytes, with more bytes behind, and one message after another.
+-- The messages of a list of bytes, with more bytes after, and one message after another.
 use Rattle.std.proofs.Common.{◌≡◌, ℕ, ◌<◌, List, [], ◌∷◌, ◌++◌, length, map, refl, sym, ap, ◌∙◌, subst, arith}
 use Rattle.std.proofs.lemmas.List.{length-drop}
 use Rattle.std.specs.List.{AllByRecursion}
@@ -7,10 +7,10 @@ use Rattle.zot_head.specs.Front as fronts
 use Rattle.zot_head.proofs.FrontLemmas.{front_stays, front_takes}
 use Rattle.zot_model.specs.Valid.{body_limit}
 use Rattle.zot_session.specs.Messages.{IsRefused, Message, Messages, Stands}
-use Rattle.zot_session.specs.Session.{Exchange, message_of, output, spelled}
+use Rattle.zot_session.specs.Exchanges.{Exchange, message_of, output, spelled}
 use Rattle.std.proofs.lemmas.List.{append_assoc, append-nil}
 
--- a whole message stays what it is with more bytes behind
+-- a whole message stays what it is with more bytes after
 pub stands_more : (bytes more : List ℕ) (message : Message) (rest : List ℕ) → Stands bytes message rest → Stands (bytes ++ more) message (rest ++ more)
 stands_more bytes more message rest h = front_stays body_limit bytes more (fronts.Message message.head message.body rest) h tt
 
@@ -28,7 +28,7 @@ stands_size bytes message rest h =
     let same = ap length t.rest_is in
     omega arith
 
--- the messages stay with more bytes behind
+-- the messages stay with more bytes after
 pub Messages-more : (bytes more : List ℕ) (messages : List Message) (rest : List ℕ) → Messages bytes messages rest → Messages (bytes ++ more) messages (rest ++ more)
 Messages-more bytes more [] rest h = ap (λ b. b ++ more) h
 Messages-more bytes more (message ∷ messages) rest h = (h.0 ++ more, stands_more bytes more message h.0 h.1, Messages-more h.0 more messages rest h.2)

@@ -1,5 +1,5 @@
 -- A session so far, turn by turn.
-use Rattle.std.proofs.Common.{◌≡◌, ℕ, ◌+◌, ◌-◌, ◌*◌, ◌<◌, ◌≤◌, List, [], ◌∷◌, ◌++◌, length, map, Option, refl, sym, subst, arith}
+use Rattle.std.proofs.Common.{◌≡◌, ℕ, ◌+◌, ◌-◌, ◌*◌, ◌<◌, ◌≤◌, List, [], ◌∷◌, ◌++◌, length, map, Option, refl, sym, ap, subst, arith}
 use Rattle.std.proofs.lemmas.List.{length-append}
 use Rattle.std.specs.List.{AllByRecursion}
 use Rattle.zot_model.specs.declared.reply.Reply.{Reply}
@@ -8,10 +8,14 @@ use Rattle.zot_outside.specs.Streams.{Appends, Takes}
 use Rattle.zot_outside.proofs.StreamLemmas.{Appends-append, Appends-nil, Takes-append, Takes-nil}
 use Rattle.zot_session.specs.declared.end.End.{End}
 use Rattle.zot_session.specs.declared.end.End.TheVariants as ends
+use Rattle.zot_session.specs.Cuts.{budget}
+use Rattle.zot_session.specs.Ending.{EndsAfter, EndsWith, after, unread, with_last}
+use Rattle.zot_session.specs.Exchanges.{Conducts, Exchange, IsRouted, StayOpen, answered, closes, declined, message_of, output, spelled}
 use Rattle.zot_session.specs.Messages.{Messages}
-use Rattle.zot_session.specs.Session.{Conducts, EndsBehind, EndsWith, Exchange, IsRouted, Served, StayOpen, answered, behind, closes, declined, message_of, output, spelled, with_last}
-use Rattle.zot_session.specs.Turn.{AnswersFront, GoesOn, Stop, Stops, receiving, replying}
-use Rattle.zot_session.specs.Waiting.{Waiting, budget}
+use Rattle.zot_session.specs.Receiving.{Took}
+use Rattle.zot_session.specs.Session.{Served}
+use Rattle.zot_session.specs.Turn.{AnswersFront, GoesOn, Stops, TurnEnds, receiving, replying}
+use Rattle.zot_session.specs.Waiting.{Waiting}
 use Rattle.zot_session.proofs.MessageLemmas.{Messages-more, Messages-push, all_push, map-push, output-push, stands_size}
 use Rattle.std.proofs.Common.{inl, false}
 
@@ -35,124 +39,122 @@ module _ {A : Type 0} (answers : A → Request → Reply → A → Type 0) where
   Conducts-append old mid new (declined message reply ∷ first) second h k = Conducts-append old mid new first second h k
 
   -- nothing was taken yet
-  pub so_far_start : (old : A) (left held : Option (List ℕ)) → SoFar answers old old left left held held (record { bytes = []; taken = 0 })
-  so_far_start old left held = record {
+  pub so_far_start : (old : A) (left held : Option (List ℕ)) (waits : Waiting) → waits ≡ record { bytes = []; spent = 0; taken = 0 } → SoFar answers old old left left held held waits
+  so_far_start old left held waits is = record {
     taken = [];
     exchanges = [];
     reads = Takes-nil left;
     writes = Appends-nil held;
-    messages = refl;
+    messages = sym (ap (λ (w : Waiting). w.bytes) is);
     routed = tt;
     stay = tt;
     history = refl;
-    counted = refl;
-    within = omega arith;
+    counted = sym (ap (λ (w : Waiting). w.taken) is);
+    within = let none = ap (λ (w : Waiting). w.taken) is in omega arith;
   }
 
   -- a message more
-  pushed : (taken came rest : List ℕ) (exchanges : List Exchange) (was : Waiting) (now new : A) (a : AnswersFront answers now new was came rest) → Messages taken (map message_of exchanges) was.bytes
+  pushed : {now new : A} {was : Waiting} {came rest : List ℕ} (taken : List ℕ) (exchanges : List Exchange) (a : AnswersFront answers now new was came rest) → Messages taken (map message_of exchanges) was.bytes
       → Messages (taken ++ came) (map message_of (exchanges ++ a.exchange ∷ [])) rest
-  pushed taken came rest exchanges was now new a h =
+  pushed {was = was} {came = came} {rest = rest} taken exchanges a h =
       subst (λ messages. Messages (taken ++ came) messages rest) (sym (map-push exchanges a.exchange))
       (Messages-push (taken ++ came) (map message_of exchanges) (was.bytes ++ came) (message_of a.exchange) rest (Messages-more taken came (map message_of exchanges) was.bytes h) a.front)
 
-  -- one turn more
-  pub so_far_more : (old now new : A) (left_before left left' held_before held held' : Option (List ℕ)) (was is : Waiting)
-      → SoFar answers old now left_before left held_before held was → GoesOn answers now new left left' held held' was is → SoFar answers old new left_before left' held_before held' is
-  so_far_more old now new left_before left left' held_before held held' was is s g =
-      let a = g.answer in
-      let longer = length-append s.taken g.came in
-      let counted = s.counted in
-      let taken = g.taken in
-      record {
-        taken = s.taken ++ g.came;
-        exchanges = s.exchanges ++ a.exchange ∷ [];
-        reads = Takes-append left_before left left' s.taken g.came s.reads g.reads;
-        writes = subst (λ text. Appends held_before text held') (sym (output-push s.exchanges a.exchange)) (Appends-append held_before held held' (output s.exchanges) (spelled a.exchange) s.writes g.writes);
-        messages = pushed s.taken g.came is.bytes s.exchanges was now new a s.messages;
-        routed = all_push IsRouted s.exchanges a.exchange s.routed a.routed;
-        stay = all_push (λ exchange. closes exchange ≡ false) s.exchanges a.exchange s.stay g.stays;
-        history = Conducts-append old now new s.exchanges (a.exchange ∷ []) s.history a.conducts;
-        counted = omega arith;
-        within = g.within s.within;
-      }
-
-  -- each turn that goes on brings the end nearer
-  pub smaller : (now new : A) (left left' held held' : Option (List ℕ)) (was is : Waiting) → was.taken ≤ budget → GoesOn answers now new left left' held held' was is
-      → 2 * (budget - is.taken) + length is.bytes < 2 * (budget - was.taken) + length was.bytes
-  smaller now new left left' held held' was is within g =
-      let shorter = stands_size (was.bytes ++ g.came) (message_of g.answer.exchange) is.bytes g.answer.front in
-      let longer = length-append was.bytes g.came in
-      let taken = g.taken in
-      let fits = g.within within in
+  -- how many bytes were taken with those that came
+  counted_more : {old now : A} {left_before left left' held_before held : Option (List ℕ)} {was is : Waiting} {came : List ℕ} (s : SoFar answers old now left_before left held_before held was) → Took was is came left left'
+      → length (s.taken ++ came) ≡ is.taken
+  counted_more {came = came} s t =
+      let longer = length-append s.taken came in
+      let before = s.counted in
+      let taken = t.taken in
       omega arith
 
-  -- the end of a session behind its exchanges
-  ends_behind : (end : End) (old now new : A) (left_before left left' held_before held held' : Option (List ℕ)) (was : Waiting) (s : SoFar answers old now left_before left held_before held was)
-      (came text : List ℕ) → Takes left came left' → was.taken + length came ≤ budget → Appends held text held' → new ≡ now → EndsBehind end (was.taken + length came) (was.bytes ++ came) left' text
-      → Served (λ exchanges. Conducts answers old exchanges new) end left_before left' held_before held'
-  ends_behind end old now new left_before left left' held_before held held' was s came text reads within writes same ending =
-      let longer = length-append s.taken came in
-      let counted = s.counted in
-      let size : was.taken + length came ≡ length (s.taken ++ came) = omega arith in
-      record {
-        taken = s.taken ++ came;
-        exchanges = s.exchanges;
-        rest = was.bytes ++ came;
-        sent = output s.exchanges ++ text;
-        reads = Takes-append left_before left left' s.taken came s.reads reads;
-        writes = Appends-append held_before held held' (output s.exchanges) text s.writes writes;
-        messages = Messages-more s.taken came (map message_of s.exchanges) was.bytes s.messages;
-        routed = s.routed;
-        has_history = subst (λ a. Conducts answers old s.exchanges a) (sym same) s.history;
-        within = omega arith;
-        ending = behind text s.stay refl (subst (λ n. EndsBehind end n (was.bytes ++ came) left' text) size ending);
-      }
+  module _ {old now new : A} {left_before left left' held_before held held' : Option (List ℕ)} {was is : Waiting} (s : SoFar answers old now left_before left held_before held was) where
+    -- one turn more
+    pub so_far_more : GoesOn answers now new left left' held held' was is → SoFar answers old new left_before left' held_before held' is
+    so_far_more g =
+        let a = g.answer in
+        record {
+          taken = s.taken ++ g.came;
+          exchanges = s.exchanges ++ a.exchange ∷ [];
+          reads = Takes-append left_before left left' s.taken g.came s.reads g.took.reads;
+          writes = subst (λ text. Appends held_before text held') (sym (output-push s.exchanges a.exchange)) (Appends-append held_before held held' (output s.exchanges) (spelled a.exchange) s.writes g.writes);
+          messages = pushed s.taken s.exchanges a s.messages;
+          routed = all_push IsRouted s.exchanges a.exchange s.routed a.routed;
+          stay = all_push (λ exchange. closes exchange ≡ false) s.exchanges a.exchange s.stay g.stays;
+          history = Conducts-append old now new s.exchanges (a.exchange ∷ []) s.history a.conducts;
+          counted = counted_more s g.took;
+          within = g.took.within s.within;
+        }
 
-  -- the end of a session with its last exchange
-  ends_with : (end : End) (old now new : A) (left_before left left' held_before held held' : Option (List ℕ)) (was : Waiting) (s : SoFar answers old now left_before left held_before held was)
-      (came text rest : List ℕ) → Takes left came left' → was.taken + length came ≤ budget → Appends held text held' → (a : AnswersFront answers now new was came rest) → EndsWith end a.exchange text
-      → Served (λ exchanges. Conducts answers old exchanges new) end left_before left' held_before held'
-  ends_with end old now new left_before left left' held_before held held' was s came text rest reads within writes a ending =
-      let longer = length-append s.taken came in
-      let counted = s.counted in
-      record {
-        taken = s.taken ++ came;
-        exchanges = s.exchanges ++ a.exchange ∷ [];
-        rest = rest;
-        sent = output s.exchanges ++ text;
-        reads = Takes-append left_before left left' s.taken came s.reads reads;
-        writes = Appends-append held_before held held' (output s.exchanges) text s.writes writes;
-        messages = pushed s.taken came rest s.exchanges was now new a s.messages;
-        routed = all_push IsRouted s.exchanges a.exchange s.routed a.routed;
-        has_history = Conducts-append old now new s.exchanges (a.exchange ∷ []) s.history a.conducts;
-        within = omega arith;
-        ending = with_last s.exchanges a.exchange text refl s.stay refl ending;
-      }
+    -- the end of a session
+    pub so_far_ends : {end : End} → Stops answers end now new left left' held held' was is → Served (λ exchanges. Conducts answers old exchanges new) end left_before left' held_before held'
+    so_far_ends {end} k = by k.ends
+      where
+        size : is.taken ≡ length (s.taken ++ k.came)
+        size = sym (counted_more s k.took)
 
-  so_far_stops : (end : End) (old now new : A) (left_before left left' held_before held held' : Option (List ℕ)) (was : Waiting) (s : SoFar answers old now left_before left held_before held was)
-      (came text : List ℕ) → Takes left came left' → was.taken + length came ≤ budget → Appends held text held' → Stops answers end now new left left' held held' was came text
-      → Served (λ exchanges. Conducts answers old exchanges new) end left_before left' held_before held'
-  so_far_stops end old now new left_before left left' held_before held held' was s came text reads within writes (receiving same ending) =
-      ends_behind end old now new left_before left left' held_before held held' was s came text reads within writes same ending
-  so_far_stops end old now new left_before left left' held_before held held' was s came text reads within writes (replying rest a ending) =
-      ends_with end old now new left_before left left' held_before held held' was s came text rest reads within writes a ending
+        within : length (s.taken ++ k.came) ≤ budget
+        within = subst (λ n. n ≤ budget) size (k.took.within s.within)
 
-  -- the end of a session
-  pub so_far_ends : (end : End) (old now new : A) (left_before left left' held_before held held' : Option (List ℕ)) (was : Waiting) → SoFar answers old now left_before left held_before held was
-      → Stop answers end now new left left' held held' was → Served (λ exchanges. Conducts answers old exchanges new) end left_before left' held_before held'
-  so_far_ends end old now new left_before left left' held_before held held' was s k =
-      so_far_stops end old now new left_before left left' held_before held held' was s k.came k.text k.reads (k.within s.within) k.writes k.stops
+        by : TurnEnds answers end now new left' was is k.came k.text → Served (λ exchanges. Conducts answers old exchanges new) end left_before left' held_before held'
+        by (receiving same ending) = record {
+          taken = s.taken ++ k.came;
+          exchanges = s.exchanges;
+          rest = was.bytes ++ k.came;
+          sent = output s.exchanges ++ k.text;
+          reads = Takes-append left_before left left' s.taken k.came s.reads k.took.reads;
+          writes = Appends-append held_before held held' (output s.exchanges) k.text s.writes k.writes;
+          messages = Messages-more s.taken k.came (map message_of s.exchanges) was.bytes s.messages;
+          routed = s.routed;
+          has_history = subst (λ a. Conducts answers old s.exchanges a) (sym same) s.history;
+          within = within;
+          ending = after k.text s.stay refl (subst (λ n. EndsAfter end n (was.bytes ++ k.came) left' k.text) size ending);
+        }
+        by (replying rest a ending) = record {
+          taken = s.taken ++ k.came;
+          exchanges = s.exchanges ++ a.exchange ∷ [];
+          rest = rest;
+          sent = output s.exchanges ++ k.text;
+          reads = Takes-append left_before left left' s.taken k.came s.reads k.took.reads;
+          writes = Appends-append held_before held held' (output s.exchanges) k.text s.writes k.writes;
+          messages = pushed s.taken s.exchanges a s.messages;
+          routed = all_push IsRouted s.exchanges a.exchange s.routed a.routed;
+          has_history = Conducts-append old now new s.exchanges (a.exchange ∷ []) s.history a.conducts;
+          within = within;
+          ending = with_last s.exchanges a.exchange k.text refl s.stay refl ending;
+        }
+
+  -- each turn that goes on brings the end nearer
+  pub smaller : {now new : A} {left left' held held' : Option (List ℕ)} {was is : Waiting} → was.taken ≤ budget → GoesOn answers now new left left' held held' was is
+      → 2 * (budget - is.taken) + length is.bytes < 2 * (budget - was.taken) + length was.bytes
+  smaller {was = was} {is = is} within g =
+      let shorter = stands_size (was.bytes ++ g.came) (message_of g.answer.exchange) is.bytes g.answer.front in
+      let longer = length-append was.bytes g.came in
+      let taken = g.took.taken in
+      let fits = g.took.within within in
+      omega arith
 
   -- a session that began with no memory
   pub never_began : (old : A) (left held : Option (List ℕ)) → Served (λ exchanges. Conducts answers old exchanges old) ends.NoMemory left left held held
-  never_began old left held =
-      ends_behind ends.NoMemory old old old left left left held held held (record { bytes = []; taken = 0 }) (so_far_start old left held) [] [] (Takes-nil left) (omega arith) (Appends-nil held) refl (inl refl)
+  never_began old left held = record {
+    taken = [];
+    exchanges = [];
+    rest = [];
+    sent = [];
+    reads = Takes-nil left;
+    writes = Appends-nil held;
+    messages = refl;
+    routed = tt;
+    has_history = refl;
+    within = omega arith;
+    ending = after [] tt refl (unread refl refl);
+  }
 
 -- another history of the same exchanges
-pub served_map : (first second : List Exchange → Type 0) (end : End) (left left' held held' : Option (List ℕ)) → ((exchanges : List Exchange) → AllByRecursion IsRouted exchanges → first exchanges → second exchanges)
+pub served_map : {first : List Exchange → Type 0} {end : End} {left left' held held' : Option (List ℕ)} (second : List Exchange → Type 0) → ((exchanges : List Exchange) → AllByRecursion IsRouted exchanges → first exchanges → second exchanges)
     → Served first end left left' held held' → Served second end left left' held held'
-served_map first second end left left' held held' f s = record {
+served_map second f s = record {
   taken = s.taken;
   exchanges = s.exchanges;
   rest = s.rest;

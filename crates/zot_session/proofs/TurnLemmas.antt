@@ -1,166 +1,136 @@
 -- What a turn of a session does.
-use Rattle.std.proofs.Common.{◌≡◌, ℕ, ◌+◌, ◌≤◌, Bool, true, false, List, [], ◌++◌, length, Option, None, refl, sym, ap, ◌∙◌, subst, inr}
-use Rattle.std.specs.declared.alloc.Global.{Global}
-use Rattle.std.specs.Prelude.{Vec}
+use Rattle.std.proofs.Common.{◌≡◌, ℕ, ◌-◌, Bool, true, false, List, [], ◌++◌, length, Option, None, refl, sym, ap, ◌∙◌, subst}
+use Rattle.std.specs.Prelude.{Result, Ok, Err}
 use Rattle.std.proofs.lemmas.List.{append_assoc, append-nil}
 use Rattle.zot_head.specs.declared.head.Head.{Head}
 use Rattle.zot_head.specs.Front.{Refusal}
 use Rattle.zot_head.specs.Front as fronts
 use Rattle.zot_model.specs.declared.reply.Reply.{Reply}
 use Rattle.zot_model.specs.declared.request.Request.{Request}
-use Rattle.zot_model.specs.Fits.{Declines}
 use Rattle.zot_outside.specs.Streams.{Appends}
-use Rattle.zot_outside.proofs.StreamLemmas.{Appends-append}
+use Rattle.zot_outside.proofs.StreamLemmas.{Appends-append, Appends-nil}
 use Rattle.zot_session.specs.declared.end.End.{End}
 use Rattle.zot_session.specs.declared.end.End.TheVariants as ends
-use Rattle.zot_session.specs.declared.receiving.Received.TheVariants as received
-use Rattle.zot_session.specs.declared.sending.Sent.{Sent}
-use Rattle.zot_session.specs.declared.sending.Sent.TheVariants as sents
-use Rattle.zot_session.specs.Messages.{IsRefused, Message, Owes, Stands, continue_of, refused_as, status_of}
-use Rattle.zot_session.specs.Receiving.{ReceiveEnds, Receives}
-use Rattle.zot_session.specs.Sending.{Sends}
-use Rattle.zot_session.specs.Session.{EndsBehind, Exchange, closing_bytes, message_of, owed, refused, reply_of, spelled}
-use Rattle.zot_session.specs.Turn.{AnswersFront, GoesOn, RefusalEnds, Replies, Stop, receiving, replying, status_in}
-use Rattle.zot_session.specs.Waiting.{Waiting, budget}
+use Rattle.zot_session.specs.declared.send_error.SendError.{SendError}
+use Rattle.zot_session.specs.declared.send_error.SendError.TheVariants as errors
+use Rattle.zot_session.specs.Ending.{EndsAfter, EndsRefused, EndsUnsent, Says, closed, closing_bytes, owed, refused, refused_there, unsent, unsent_last}
+use Rattle.zot_session.specs.Exchanges.{Exchange, message_of, reply_of, spelled}
+use Rattle.zot_session.specs.Messages.{Message, Owes, Stands, continue_of, refused_as, status_of}
+use Rattle.zot_session.specs.Receiving.{MessageCame, MessageRefused, ReceiveEnds, Took}
+use Rattle.zot_session.specs.Sending.{Sends, StopsWriting, WritesPart, end_unsent}
+use Rattle.zot_session.specs.Turn.{Answered, AnswersFront, GoesOn, RefusalEnds, Replied, Replies, Stops, Unreplied, receiving, reply_unsent, replying, status_in, stopped, unasked, written}
+use Rattle.zot_session.specs.Waiting.{Waiting}
 use Rattle.zot_spell.specs.Spelling.{reply_bytes}
 
--- a reply under one flag is one under an equal flag
-pub sends_head : (sent : Sent) (before after : Option (List ℕ)) (request : Option Request) (reply : Reply) (head other close : Bool) → head ≡ other
-    → Sends sent before (reply_bytes request reply head close) after → Sends sent before (reply_bytes request reply other close) after
-sends_head sent before after request reply head other close e h = subst (λ x. Sends sent before (reply_bytes request reply x close) after) e h
-
--- each refusal of a message is one that a message may have, with its status
-pub refused_declines : (why : Refusal) (reply : Reply) → reply ≡ refused_as why → Declines reply
-refused_declines why reply e = subst Declines (sym e) (by why)
-  where
-    by : (w : Refusal) → Declines (refused_as w)
-    by fronts.HeadInvalid = (refl, tt)
-    by fronts.SizeInvalid = (refl, tt)
-    by fronts.HeadTooLong = (refl, tt)
-
+-- the status of the refusal of a message
 refused_status : (why : Refusal) → status_in (refused_as why) ≡ status_of why
 refused_status fronts.HeadInvalid = refl
 refused_status fronts.SizeInvalid = refl
 refused_status fronts.HeadTooLong = refl
 
-module _ {A : Type 0} (answers : A → Request → Reply → A → Type 0) where
-  -- the connection ended before a message was whole
-  pub stop_receiving : (end : End) (old new : A) (was is : Waiting) (left left' held held' : Option (List ℕ)) → new ≡ old → ReceiveEnds end was is left left' held held' → Stop answers end old new left left' held held' was
-  stop_receiving end old new was is left left' held held' same r = record {
-    came = r.came;
-    text = r.text;
-    reads = r.reads;
-    within = λ k. subst (λ n. n ≤ budget) r.taken (r.within k);
-    writes = r.writes;
-    stops = receiving same (subst (λ n. EndsBehind end n (was.bytes ++ r.came) left' r.text) r.taken r.ends);
-  }
+-- what stopped wrote a part
+stops_part : (error : SendError) (before after : Option (List ℕ)) (text : List ℕ) → StopsWriting error before text after → WritesPart before text after
+stops_part errors.Fault before after text h = h
+stops_part errors.NoMemory before after text h = record { part = []; lost = text; whole = refl; written = subst (λ x. Appends before [] x) (sym h) (Appends-nil before) }
 
-  -- what is written at the rest where a message is refused there
-  refusal_text : (end : End) (reply : Reply) (why : Refusal) (rest before : List ℕ) (taken : ℕ) (left held held' held'' : Option (List ℕ)) → IsRefused rest why → Owes rest before → reply ≡ refused_as why
-      → Appends held before held' → RefusalEnds end reply held' held'' → (text : List ℕ) × Appends held text held'' × EndsBehind end taken rest left text
-  refusal_text (ends.Refused status) reply why rest before taken left held held' held'' is owes reply_is written h =
-      let same : reply_bytes None reply false true ≡ closing_bytes why = ap (λ r. reply_bytes None r false true) reply_is in (
-        before ++ closing_bytes why,
-        Appends-append held held' held'' before (closing_bytes why) written (subst (λ t. Appends held' t held'') same h.1),
-        (why, is, h.0 ∙ ap status_in reply_is ∙ refused_status why, before, owes, refl),
-      )
-  refusal_text ends.WriteFault reply why rest before taken left held held' held'' is owes reply_is written h =
-      let same : reply_bytes None reply false true ≡ closing_bytes why = ap (λ r. reply_bytes None r false true) reply_is in (
-        before ++ h.part,
-        Appends-append held held' held'' before h.part written h.written,
-        (before ++ closing_bytes why, refused why before is owes refl, (h.lost, ap (λ t. before ++ t) (sym same ∙ h.whole) ∙ sym (append_assoc before h.part h.lost))),
-      )
-  refusal_text ends.NoMemory reply why rest before taken left held held' held'' is owes reply_is written h =
-      (before, subst (λ x. Appends held before x) (sym h) written, inr (before, owed owes, ([], sym (append-nil before))))
-  refusal_text ends.Closed reply why rest before taken left held held' held'' is owes reply_is written h = absurd h
-  refusal_text (ends.Torn n) reply why rest before taken left held held' held'' is owes reply_is written h = absurd h
-  refusal_text ends.ReadFault reply why rest before taken left held held' held'' is owes reply_is written h = absurd h
-  refusal_text ends.Budget reply why rest before taken left held held' held'' is owes reply_is written h = absurd h
+-- a text of which the first part was written whole, and of the second a part
+part_behind : (first second : List ℕ) (before mid after : Option (List ℕ)) → Appends before first mid → WritesPart mid second after → WritesPart before (first ++ second) after
+part_behind first second before mid after h w = record {
+  part = first ++ w.part;
+  lost = w.lost;
+  whole = ap (λ t. first ++ t) w.whole ∙ sym (append_assoc first w.part w.lost);
+  written = Appends-append before mid after first w.part h w.written;
+}
+
+module _ {A : Type 0} (answers : A → Request → Reply → A → Type 0) where
+  -- what came of a message, by what was written of its reply
+  pub answer_sent : {old new : A} {message : Message} {T : Type 0} (sent : Result T SendError) (before after : Option (List ℕ)) (r : Replies answers old new message) (text : List ℕ) → text ≡ reply_of r.exchange → Sends sent before text after
+      → Answered answers sent old new message before after
+  answer_sent (Ok x) before after r text e h = record { replies = r; writes = subst (λ t. Appends before t after) e h }
+  answer_sent (Err error) before after r text e h = reply_unsent r (subst (λ t. StopsWriting error before t after) e h)
+
+  -- the connection ended before a message was whole
+  pub stop_receiving : {end : End} {was is : Waiting} {left left' held held' : Option (List ℕ)} (old : A) → ReceiveEnds end was is left left' held held' → Stops answers end old old left left' held held' was is
+  stop_receiving old r = record { came = r.came; text = r.text; took = r.took; writes = r.writes; ends = receiving refl r.ends }
 
   -- the connection ended with the refusal of a message
-  pub stop_refusing : (end : End) (reply : Reply) (old new : A) (was is : Waiting) (left left' held held' held'' : Option (List ℕ)) → new ≡ old → Receives (received.Refused reply) was is left left' held held'
-      → RefusalEnds end reply held' held'' → Stop answers end old new left left' held held'' was
-  stop_refusing end reply old new was is left left' held held' held'' same r h =
-      let t = refusal_text end reply r.4 (was.bytes ++ r.0) r.7 (was.taken + length r.0) left' held held' held'' r.5 r.8 r.6 r.9 h in record {
-        came = r.0;
-        text = t.0;
-        reads = r.1;
-        within = λ k. subst (λ n. n ≤ budget) r.2 (r.3 k);
-        writes = t.1;
-        stops = receiving same t.2;
+  pub stop_refusing : {end : End} {reply : Reply} {was is : Waiting} {left left' held held' held'' : Option (List ℕ)} (old : A) → MessageRefused reply was is left left' held held' → RefusalEnds end reply held' held''
+      → Stops answers end old old left left' held held'' was is
+  stop_refusing {end} {reply} {was} {is} {left} {left'} {held} {held'} {held''} old r h = by h
+    where
+      same : reply_bytes None reply false true ≡ closing_bytes r.why
+      same = ap (λ x. reply_bytes None x false true) r.reply_is
+
+      says : Says (was.bytes ++ r.came) (r.text ++ closing_bytes r.why)
+      says = refused r.why r.text r.refused r.owed refl
+
+      by : RefusalEnds end reply held' held'' → Stops answers end old old left left' held held'' was is
+      by (written is_end whole) = record {
+        came = r.came;
+        text = r.text ++ closing_bytes r.why;
+        took = r.took;
+        writes = Appends-append held held' held'' r.text (closing_bytes r.why) r.writes (subst (λ t. Appends held' t held'') same whole);
+        ends = receiving refl
+            (refused_there (record { why = r.why; before = r.text; is_refused = r.refused; owed = r.owed; text_is = refl; end_is = is_end ∙ ap (λ x. ends.Refused (status_in x)) r.reply_is ∙ ap (λ s. ends.Refused s) (refused_status r.why) }));
       }
+      by (stopped error is_end part) =
+          let w = part_behind r.text (closing_bytes r.why) held held' held'' r.writes (subst (λ t. WritesPart held' t held'') same (stops_part error held' held'' (reply_bytes None reply false true) part)) in record {
+            came = r.came;
+            text = w.part;
+            took = r.took;
+            writes = w.written;
+            ends = receiving refl (unsent (r.text ++ closing_bytes r.why) says (record { error = error; part = (w.lost, w.whole); end_is = is_end }));
+          }
 
-  -- a message at the front that was answered
-  abbrev pub answers_front : {old new : A} {message : Message} {sent : Sent} {before after : Option (List ℕ)} → (r : Replies answers old new message sent before after) (was : Waiting) (came rest : List ℕ)
-      → Stands (was.bytes ++ came) message rest → AnswersFront answers old new was came rest
-  answers_front r was came rest h = record { exchange = r.exchange; front = subst (λ m. Stands (was.bytes ++ came) m rest) (sym r.message_is) h; routed = r.routed; conducts = r.conducts }
+  -- a message that was answered stood at the front
+  abbrev answers_front : {head : Head} {body : List ℕ} {was is : Waiting} {left left' held held' : Option (List ℕ)} {old new : A} (r : MessageCame head body was is left left' held held')
+      → Replies answers old new (record { head = head; body = body }) → AnswersFront answers old new was r.came is.bytes
+  answers_front {was = was} {is = is} r a = record { exchange = a.exchange; front = subst (λ m. Stands (was.bytes ++ r.came) m is.bytes) (sym a.message_is) r.stands; routed = a.routed; conducts = a.conducts }
 
-  -- what was written for a message and its reply
-  spelled_whole : (exchange : Exchange) (message : Message) (held held' held'' : Option (List ℕ)) → message_of exchange ≡ message → Appends held (continue_of message.head) held' → Appends held' (reply_of exchange) held''
-      → Appends held (spelled exchange) held''
-  spelled_whole exchange message held held' held'' is before reply =
-      Appends-append held held' held'' (continue_of (message_of exchange).head) (reply_of exchange) (subst (λ m. Appends held (continue_of m.head) held') (sym is) before) reply
+  -- what it was owed before its body was written
+  continued : {head : Head} {body : List ℕ} {was is : Waiting} {left left' held held' : Option (List ℕ)} {old new : A} (r : MessageCame head body was is left left' held held')
+      → (a : Replies answers old new (record { head = head; body = body })) → Appends held (continue_of (message_of a.exchange).head) held'
+  continued {held = held} {held' = held'} r a = subst (λ m. Appends held (continue_of m.head) held') (sym a.message_is) r.writes
 
-  -- a message was answered that leaves the connection open
-  pub goes_on : (head : Head) (body : Vec ℕ Global) (old new : A) (was is : Waiting) (left left' held held' held'' : Option (List ℕ)) → Receives (received.Whole head body) was is left left' held held'
-      → Replies answers old new (record { head = head; body = body.items }) sents.Whole held' held'' → head.closes ≡ false → GoesOn answers old new left left' held held'' was is
-  goes_on head body old new was is left left' held held' held'' r a open_ = record {
-    came = r.0;
-    reads = r.1;
-    taken = r.2;
-    within = r.3;
-    answer = answers_front a was r.0 is.bytes r.4;
-    stays = ap (λ m. m.head.closes) a.message_is ∙ open_;
-    writes = spelled_whole a.exchange (record { head = head; body = body.items }) held held' held'' a.message_is r.6 a.writes;
-  }
+  module _ {head : Head} {body : List ℕ} {was is : Waiting} {left left' held held' held'' : Option (List ℕ)} {old new : A} (r : MessageCame head body was is left left' held held') where
+    whole_reply : (a : Replied answers old new (record { head = head; body = body }) held' held'') → Appends held (spelled a.replies.exchange) held''
+    whole_reply a = Appends-append held held' held'' (continue_of (message_of a.replies.exchange).head) (reply_of a.replies.exchange) (continued r a.replies) a.writes
 
-  -- a message was answered that closes the connection
-  pub stop_closing : (head : Head) (body : Vec ℕ Global) (old new : A) (was is : Waiting) (left left' held held' held'' : Option (List ℕ)) → Receives (received.Whole head body) was is left left' held held'
-      → Replies answers old new (record { head = head; body = body.items }) sents.Whole held' held'' → head.closes ≡ true → Stop answers ends.Closed old new left left' held held'' was
-  stop_closing head body old new was is left left' held held' held'' r a closed = record {
-    came = r.0;
-    text = spelled a.exchange;
-    reads = r.1;
-    within = λ k. subst (λ n. n ≤ budget) r.2 (r.3 k);
-    writes = spelled_whole a.exchange (record { head = head; body = body.items }) held held' held'' a.message_is r.6 a.writes;
-    stops = replying is.bytes (answers_front a was r.0 is.bytes r.4) (ap (λ m. m.head.closes) a.message_is ∙ closed, refl);
-  }
+    -- it leaves the connection open
+    pub goes_on : Replied answers old new (record { head = head; body = body }) held' held'' → head.closes ≡ false → GoesOn answers old new left left' held held'' was is
+    goes_on a stays = record {
+      came = r.came;
+      took = r.took;
+      answer = answers_front r a.replies;
+      stays = ap (λ m. m.head.closes) a.replies.message_is ∙ stays;
+      writes = whole_reply a;
+      holds = r.holds;
+    }
 
-  -- the reply wasn't written whole
-  pub stop_writing : (head : Head) (body : Vec ℕ Global) (old new : A) (was is : Waiting) (left left' held held' held'' : Option (List ℕ)) → Receives (received.Whole head body) was is left left' held held'
-      → Replies answers old new (record { head = head; body = body.items }) sents.Fault held' held'' → Stop answers ends.WriteFault old new left left' held held'' was
-  stop_writing head body old new was is left left' held held' held'' r a =
-      let w = a.writes in
-      let before = continue_of (message_of a.exchange).head in record {
-        came = r.0;
-        text = before ++ w.part;
-        reads = r.1;
-        within = λ k. subst (λ n. n ≤ budget) r.2 (r.3 k);
-        writes = Appends-append held held' held'' before w.part (subst (λ m. Appends held (continue_of m.head) held') (sym a.message_is) r.6) w.written;
-        stops = replying is.bytes (answers_front a was r.0 is.bytes r.4) (w.lost, ap (λ t. before ++ t) w.whole ∙ sym (append_assoc before w.part w.lost));
-      }
+    -- it closes the connection
+    pub stop_closing : Replied answers old new (record { head = head; body = body }) held' held'' → head.closes ≡ true → Stops answers ends.Closed old new left left' held held'' was is
+    stop_closing a closing = record {
+      came = r.came;
+      text = spelled a.replies.exchange;
+      took = r.took;
+      writes = whole_reply a;
+      ends = replying is.bytes (answers_front r a.replies) (closed (ap (λ m. m.head.closes) a.replies.message_is ∙ closing) refl refl);
+    }
 
-  -- no reply was written, for want of memory
-  pub stop_unsent : (head : Head) (body : Vec ℕ Global) (old new : A) (was is : Waiting) (left left' held held' held'' : Option (List ℕ)) → Receives (received.Whole head body) was is left left' held held'
-      → Replies answers old new (record { head = head; body = body.items }) sents.NoMemory held' held'' → Stop answers ends.NoMemory old new left left' held held'' was
-  stop_unsent head body old new was is left left' held held' held'' r a =
-      let before = continue_of (message_of a.exchange).head in record {
-        came = r.0;
-        text = before;
-        reads = r.1;
-        within = λ k. subst (λ n. n ≤ budget) r.2 (r.3 k);
-        writes = subst (λ x. Appends held before x) (sym a.writes) (subst (λ m. Appends held (continue_of m.head) held') (sym a.message_is) r.6);
-        stops = replying is.bytes (answers_front a was r.0 is.bytes r.4) (reply_of a.exchange, refl);
-      }
-
-  -- nothing was asked, for want of memory
-  pub stop_unasked : (head : Head) (body : Vec ℕ Global) (old new : A) (was is : Waiting) (left left' held held' held'' : Option (List ℕ)) → Receives (received.Whole head body) was is left left' held held'
-      → new ≡ old → held'' ≡ held' → Stop answers ends.NoMemory old new left left' held held'' was
-  stop_unasked head body old new was is left left' held held' held'' r same unsent = record {
-    came = r.0;
-    text = continue_of head;
-    reads = r.1;
-    within = λ k. subst (λ n. n ≤ budget) r.2 (r.3 k);
-    writes = subst (λ x. Appends held (continue_of head) x) (sym unsent) r.6;
-    stops = receiving same (inr (continue_of head, owed r.5, ([], sym (append-nil (continue_of head)))));
-  }
+    -- its reply wasn't written whole, or nothing was asked
+    pub stop_unreplied : {error : SendError} (end : End) → end ≡ end_unsent error → Unreplied answers error old new (record { head = head; body = body }) held' held'' → Stops answers end old new left left' held held'' was is
+    stop_unreplied {error} end is_end (reply_unsent a stops) =
+        let w = part_behind (continue_of (message_of a.exchange).head) (reply_of a.exchange) held held' held'' (continued r a) (stops_part error held' held'' (reply_of a.exchange) stops) in record {
+          came = r.came;
+          text = w.part;
+          took = r.took;
+          writes = w.written;
+          ends = replying is.bytes (answers_front r a) (unsent_last (record { error = error; part = (w.lost, w.whole); end_is = is_end }));
+        }
+    stop_unreplied {error} end is_end (unasked none same unwritten) = record {
+      came = r.came;
+      text = continue_of head;
+      took = r.took;
+      writes = subst (λ x. Appends held (continue_of head) x) (sym unwritten) r.writes;
+      ends = receiving same (unsent (continue_of head) (owed r.owed) (record { error = error; part = ([], sym (append-nil (continue_of head))); end_is = is_end }));
+    }

@@ -1,17 +1,18 @@
 -- The end that the bytes of a connection give it, where nothing fails and memory suffices.
-use Rattle.std.specs.Prelude.{◌≡◌, ℕ, nat_le, Bool, true, false, if◌then◌else◌, List, [], ◌∷◌, length, take, ◌⊎◌}
+use Rattle.std.specs.Prelude.{◌≡◌, ℕ, nat_le, Bool, true, false, List, [], ◌∷◌, length, take, ◌⊎◌}
 use Rattle.zot_head.specs.Front.{Refusal}
+use Rattle.zot_session.specs.declared.cut.Cut.TheVariants as cuts
 use Rattle.zot_session.specs.declared.end.End.{End}
 use Rattle.zot_session.specs.declared.end.End.TheVariants as ends
-use Rattle.zot_session.specs.Messages.{IsPartial, IsRefused, Message, Stands, is_blank, status_of}
-use Rattle.zot_session.specs.Waiting.{budget}
+use Rattle.zot_session.specs.Cuts.{budget, end_of}
+use Rattle.zot_session.specs.Messages.{IsPartial, IsRefused, Message, Stands, status_of}
 
 -- the end where less than a message is left: by whether the connection brings all that it may
 abbrev pub end_over : Bool → List ℕ → End
-end_over true rest = ends.Budget
-end_over false rest = if is_blank rest then ends.Closed else ends.Torn (length rest)
+end_over true rest = end_of cuts.Full rest
+end_over false rest = end_of cuts.Over rest
 
--- a connection ends so at these bytes, of which these are the messages that it still has: behind them, or with the last of them, which asks to close it
+-- a connection ends so at these bytes, of which these are the messages that it still has: after them, or with the last of them, which asks to close it
 abbrev pub EndsAt : Bool → List ℕ → List Message → End → Type 0
 EndsAt full bytes [] end = ((why : Refusal) × IsRefused bytes why × (end ≡ ends.Refused (status_of why))) ⊎ (IsPartial bytes × (end ≡ end_over full bytes))
 EndsAt full bytes (message ∷ messages) end = (rest : List ℕ) × Stands bytes message rest
@@ -24,10 +25,4 @@ pub record EndsAs (bytes : List ℕ) (end : End) : Type 0 where
 
 -- the end has another cause than the bytes: the source, the sink or memory failed
 abbrev pub HasFailed : End → Type 0
-HasFailed ends.ReadFault = Unit {0}
-HasFailed ends.WriteFault = Unit {0}
-HasFailed ends.NoMemory = Unit {0}
-HasFailed ends.Closed = ⊥
-HasFailed (ends.Refused status) = ⊥
-HasFailed (ends.Torn n) = ⊥
-HasFailed ends.Budget = ⊥
+HasFailed end = (end ≡ ends.ReadFault) ⊎ ((end ≡ ends.WriteFault) ⊎ (end ≡ ends.NoMemory))

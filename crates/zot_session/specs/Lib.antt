@@ -1,4 +1,8 @@
+pub mod Causes
+pub mod Cuts
+pub mod Ending
 pub mod Ends
+pub mod Exchanges
 pub mod Messages
 pub mod Receiving
 pub mod Sending

@@ -1,14 +1,15 @@
 //! The body of the message at hand, as its bytes come.
-ghost use Rattle.std.specs.Prelude.{◌≡◌, ◌≤◌, length, min, IfOk, IfErr};
+ghost use Rattle.std.specs.Prelude.{◌≡◌, ◌≤◌, Err, IfErr, IfOk, length, min};
 ghost use Rattle.zot_head.specs.declared.framing.Framing.TheVariants as framings;
-ghost use Rattle.zot_session.specs.Messages.{IsRead};
-ghost use Rattle.zot_session.specs.Receiving.{Bodies, BodyEnds, broken_as};
-ghost use Rattle.zot_session.specs.Turn.{ReadCauseOf};
 ghost use Rattle.zot_model.specs.Valid.{body_limit};
+ghost use Rattle.zot_session.specs.Causes.{Counts};
+ghost use Rattle.zot_session.specs.Messages.{IsRead};
+ghost use Rattle.zot_session.specs.Receiving.{Bodies, BodyCut, broken_as};
+ghost use Rattle.zot_session.specs.Waiting.{KeepsRoom};
+ghost use Rattle.zot_session.specs.declared.cut.Cut.TheVariants as cuts;
 
-use crate::end::End;
+use crate::cut::Cut;
 use crate::inbox::Inbox;
-use crate::pieces::take;
 use std::alloc::Global;
 use zot_head::{ChunkError, Chunks, Framing};
 use zot_model::{Code, Reply};
@@ -26,24 +27,23 @@ pub enum Body {
     Refused(Reply),
 }
 
-/// Receives the body of a message that began behind so many bytes of the connection: takes pieces until it is whole or refused. An `Err` ends the connection.
+/// Receives the body of a message: takes pieces until it is whole or refused. Each piece is passed over before the next one is taken. An `Err` ends the connection.
 pub fn receive_body<C: Source>(
     alloc: Global,
     inbox: &mut Inbox,
     source: &mut C,
     framing: Framing,
-    begun: u64,
-) -> Result<Body, End>
-    requires reads { IsRead framing }
-    requires begun { begun ≤ inbox.old.taken }
+) -> Result<Body, Cut>
+    requires { IsRead framing }
     ensures bodies { IfOk result (λ body. Bodies body framing inbox.old inbox.new (C.left source.old) (C.left source.new)) }
-    ensures ends { IfErr result (λ end. BodyEnds end framing begun inbox.old inbox.new (C.left source.old) (C.left source.new)) }
-    ensures read { ReadCauseOf result (C.faults source.old) (C.faults source.new) }
+    ensures cut { IfErr result (λ cut. BodyCut cut framing inbox.old inbox.new (C.left source.old) (C.left source.new)) }
+    ensures room { KeepsRoom inbox.old inbox.new }
+    ensures faults { Counts (result ≡ Err cuts.Fault) (C.faults source.old) (C.faults source.new) }
 {
     match framing {
         Framing::None => Ok(Body::Whole(Vec::new(alloc))),
-        Framing::Length(size) => receive_length(alloc, inbox, source, size, begun),
-        Framing::Chunked => receive_chunks(alloc, inbox, source, begun),
+        Framing::Length(size) => receive_length(alloc, inbox, source, size),
+        Framing::Chunked => receive_chunks(alloc, inbox, source),
     }
 }
 
@@ -53,28 +53,26 @@ fn receive_length<C: Source>(
     inbox: &mut Inbox,
     source: &mut C,
     size: u64,
-    begun: u64,
-) -> Result<Body, End>
-    requires within { size ≤ body_limit }
-    requires begun { begun ≤ inbox.old.taken }
+) -> Result<Body, Cut>
+    requires { size ≤ body_limit }
     ensures bodies { IfOk result (λ body. Bodies body (framings.Length size) inbox.old inbox.new (C.left source.old) (C.left source.new)) }
-    ensures ends { IfErr result (λ end. BodyEnds end (framings.Length size) begun inbox.old inbox.new (C.left source.old) (C.left source.new)) }
-    ensures read { ReadCauseOf result (C.faults source.old) (C.faults source.new) }
+    ensures cut { IfErr result (λ cut. BodyCut cut (framings.Length size) inbox.old inbox.new (C.left source.old) (C.left source.new)) }
+    ensures room { KeepsRoom inbox.old inbox.new }
+    ensures faults { Counts (result ≡ Err cuts.Fault) (C.faults source.old) (C.faults source.new) }
 {
     let mut body = Vec::new(alloc);
     'pieces: loop {
         let n = share(size - body.len() as u64, inbox.waiting());
         match body.extend_from_slice(&inbox.waiting()[..n]) {
             Ok(()) => inbox.pass(n),
-            Err(_) => return Err(End::NoMemory),
+            Err(_) => return Err(Cut::NoMemory),
         }
         if body.len() as u64 == size {
             return Ok(Body::Whole(body));
         }
-        match take(inbox, source) {
-            Ok(true) => {}
-            Ok(false) => return Err(End::Torn(inbox.taken() - begun)),
-            Err(end) => return Err(end),
+        match inbox.take(source) {
+            Ok(()) => {}
+            Err(cut) => return Err(cut),
         }
     }
 }
@@ -87,16 +85,11 @@ fn share(lacks: u64, waiting: &[u8]) -> usize
 }
 
 // Receives a body in chunks.
-fn receive_chunks<C: Source>(
-    alloc: Global,
-    inbox: &mut Inbox,
-    source: &mut C,
-    begun: u64,
-) -> Result<Body, End>
-    requires begun { begun ≤ inbox.old.taken }
+fn receive_chunks<C: Source>(alloc: Global, inbox: &mut Inbox, source: &mut C) -> Result<Body, Cut>
     ensures bodies { IfOk result (λ body. Bodies body framings.Chunked inbox.old inbox.new (C.left source.old) (C.left source.new)) }
-    ensures ends { IfErr result (λ end. BodyEnds end framings.Chunked begun inbox.old inbox.new (C.left source.old) (C.left source.new)) }
-    ensures read { ReadCauseOf result (C.faults source.old) (C.faults source.new) }
+    ensures cut { IfErr result (λ cut. BodyCut cut framings.Chunked inbox.old inbox.new (C.left source.old) (C.left source.new)) }
+    ensures room { KeepsRoom inbox.old inbox.new }
+    ensures faults { Counts (result ≡ Err cuts.Fault) (C.faults source.old) (C.faults source.new) }
 {
     let mut chunks = Chunks::new(BODY_LIMIT);
     let mut body = Vec::new(alloc);
@@ -104,7 +97,7 @@ fn receive_chunks<C: Source>(
         match chunks.feed(inbox.waiting(), &mut body) {
             Err(error) => match broken(error) {
                 Some(reply) => return Ok(Body::Refused(reply)),
-                None => return Err(End::NoMemory),
+                None => return Err(Cut::NoMemory),
             },
             Ok(fed) => {
                 inbox.pass(fed.taken);
@@ -113,10 +106,9 @@ fn receive_chunks<C: Source>(
                 }
             }
         }
-        match take(inbox, source) {
-            Ok(true) => {}
-            Ok(false) => return Err(End::Torn(inbox.taken() - begun)),
-            Err(end) => return Err(end),
+        match inbox.take(source) {
+            Ok(()) => {}
+            Err(cut) => return Err(cut),
         }
     }
 }

@@ -1,15 +1,16 @@
 //! The head of the next message, as its bytes come.
-ghost use Rattle.std.specs.Prelude.{◌≡◌, IfOk, IfErr};
+ghost use Rattle.std.specs.Prelude.{◌≡◌, ◌≤◌, Err, IfErr, IfOk, length};
 ghost use Rattle.zot_head.specs.Limits.{head_limit};
 ghost use Rattle.zot_head.specs.Lines.{Ends, extent, head_end};
 ghost use Rattle.zot_model.specs.Reply.{refusal};
+ghost use Rattle.zot_session.specs.Causes.{Counts};
+ghost use Rattle.zot_session.specs.Receiving.{HeadCut, HeadIs, Heads};
+ghost use Rattle.zot_session.specs.Waiting.{piece};
+ghost use Rattle.zot_session.specs.declared.cut.Cut.TheVariants as cuts;
 ghost use Rattle.zot_session.specs.declared.heading.Heading.TheVariants as headings;
-ghost use Rattle.zot_session.specs.Receiving.{HeadEnds, Heads, HeadIs, OverEnds};
-ghost use Rattle.zot_session.specs.Turn.{ReadCauseOf};
 
-use crate::end::End;
+use crate::cut::Cut;
 use crate::inbox::Inbox;
-use crate::pieces::{is_blank, take};
 use std::alloc::{AllocError, Global};
 use zot_head::{Found, Head, HeadError, find_head, read_head};
 use zot_model::{Code, Reply};
@@ -24,29 +25,30 @@ pub enum Heading {
     Refused(Reply),
 }
 
-/// Receives the head of the next message: takes pieces until it is whole or refused. An `Err` ends the connection.
+/// Receives the head of the next message: takes pieces until it is whole or refused. What was passed over before is let go where more than a piece is held. An `Err` ends the connection.
 pub fn receive_head<C: Source>(
     alloc: Global,
     inbox: &mut Inbox,
     source: &mut C,
-) -> Result<Heading, End>
+) -> Result<Heading, Cut>
+    requires { length inbox.old.bytes ≤ piece }
     ensures heads { IfOk result (λ heading. Heads heading inbox.old inbox.new (C.left source.old) (C.left source.new)) }
-    ensures ends { IfErr result (λ end. HeadEnds end inbox.old inbox.new (C.left source.old) (C.left source.new)) }
-    ensures read { ReadCauseOf result (C.faults source.old) (C.faults source.new) }
+    ensures cut { IfErr result (λ cut. HeadCut cut inbox.old inbox.new (C.left source.old) (C.left source.new)) }
+    ensures faults { Counts (result ≡ Err cuts.Fault) (C.faults source.old) (C.faults source.new) }
 {
+    inbox.settle();
     'pieces: loop {
         match find_head(inbox.waiting()) {
             Found::Head(n) => match head_of(alloc, inbox, n) {
                 Ok(heading) => return Ok(heading),
-                Err(_) => return Err(End::NoMemory),
+                Err(_) => return Err(Cut::NoMemory),
             },
             Found::TooLong => return Ok(refused(431, Code::HeadTooLong)),
             Found::More => {}
         }
-        match take(inbox, source) {
-            Ok(true) => {}
-            Ok(false) => return Err(over(inbox.waiting())),
-            Err(end) => return Err(end),
+        match inbox.take(source) {
+            Ok(()) => {}
+            Err(cut) => return Err(cut),
         }
     }
 }
@@ -72,15 +74,4 @@ fn refused(status: u16, code: Code) -> Heading
     ensures { result ≡ headings.Refused (refusal status code) }
 {
     Heading::Refused(Reply::refused(status, code))
-}
-
-// How a connection ends whose input ended behind these bytes of no whole head.
-fn over(rest: &[u8]) -> End
-    ensures { OverEnds result rest.now }
-{
-    if is_blank(rest) {
-        End::Closed
-    } else {
-        End::Torn(rest.len() as u64)
-    }
 }

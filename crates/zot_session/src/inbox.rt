@@ -1,9 +1,12 @@
 //! The bytes that were taken from a source and belong to no message yet.
-ghost use Rattle.std.specs.Prelude.{◌≡◌, ◌≤◌, ◌↔◌, ◌+◌, ◌<◌, IfOk, IsTrue, OnErr, length, drop, [], ◌++◌, vec_len, vec_capacity};
-ghost use Rattle.zot_session.specs.Waiting.{FillFaults, Fills, budget};
+ghost use Rattle.std.specs.Prelude.{◌≡◌, ◌≤◌, ◌+◌, Err, IfErr, IfOk, OnErr, OnOk, length, max, drop, [], ◌++◌, vec_len, vec_capacity};
 ghost use Rattle.zot_outside.specs.Faults.{HasCause};
 ghost use Rattle.zot_outside.specs.Streams.{Reads, Takes};
+ghost use Rattle.zot_session.specs.Causes.{Counts};
+ghost use Rattle.zot_session.specs.Waiting.{CutShort, TakesPiece, held, piece};
+ghost use Rattle.zot_session.specs.declared.cut.Cut.TheVariants as cuts;
 
+use crate::cut::Cut;
 use std::alloc::{AllocError, Global};
 use std::marker::Model;
 use zot_outside::{Failed, Source};
@@ -12,9 +15,9 @@ use zot_outside::{Failed, Source};
 pub const BUDGET: u64 = 1_099_511_627_776;
 
 /// How many bytes are asked for at a time.
-const PIECE: usize = 65_536;
+pub const PIECE: usize = 65_536;
 
-/// The bytes that were taken from a source and belong to no message yet, and how many were taken in all. What was passed over is let go before the next piece is taken.
+/// The bytes that were taken from a source and belong to no message yet, and how many were taken in all. What was passed over is held until the next piece is taken, or until it is let go.
 #[derive(Drop)]
 pub struct Inbox {
     bytes: Vec<u8>,
@@ -24,12 +27,12 @@ pub struct Inbox {
 }
 
 impl Model for Inbox {
-    ghost use Rattle.std.specs.Prelude.{◌≡◌, ◌≤◌, drop, vec_len};
+    ghost use Rattle.std.specs.Prelude.{drop, vec_len};
     ghost use Rattle.zot_session.specs.Waiting.{IsInbox, Waiting};
 
     ghost Value = { Waiting };
 
-    ghost view = { λ i. record { bytes = drop i.start i.bytes.items; taken = i.taken } };
+    ghost view = { λ i. record { bytes = drop i.start i.bytes.items; spent = i.start; taken = i.taken } };
 
     ghost invariant = { λ i. IsInbox (vec_len i.bytes) i.start (vec_len i.buffer) i.taken };
 }
@@ -37,7 +40,7 @@ impl Model for Inbox {
 impl Inbox {
     /// An inbox that has taken nothing.
     pub fn new(alloc: Global) -> Result<Inbox, AllocError>
-        ensures { IfOk result (λ inbox. inbox ≡ record { bytes = []; taken = 0 }) }
+        ensures { IfOk result (λ inbox. inbox ≡ record { bytes = []; spent = 0; taken = 0 }) }
     {
         let buffer = vec![in alloc; 0; PIECE]?;
         Ok(Inbox {
@@ -69,68 +72,61 @@ impl Inbox {
         self.taken - self.waiting().len() as u64
     }
 
-    /// Passes over the first n bytes that wait.
+    /// Passes over the first n bytes that wait. They are held until they are let go.
     pub fn pass(&mut self, n: usize)
         requires { n ≤ length self.old.bytes }
-        ensures { self.new ≡ record self.old { bytes = drop n self.old.bytes } }
+        ensures bytes { self.new.bytes ≡ drop n self.old.bytes }
+        ensures taken { self.new.taken ≡ self.old.taken }
+        ensures held { held self.new ≡ held self.old }
     {
         self.start += n;
     }
 
-    /// Whether the connection has brought all that it may.
-    pub fn is_full(&self) -> bool
-        ensures full { IsTrue result ↔ (self.now.taken ≡ budget) }
-        ensures within { self.now.taken ≤ budget }
+    /// Lets go of what was passed over, where more than a piece is held.
+    pub fn settle(&mut self)
+        ensures bytes { self.new.bytes ≡ self.old.bytes }
+        ensures taken { self.new.taken ≡ self.old.taken }
+        ensures held { held self.new ≤ max (length self.old.bytes) piece }
     {
-        self.taken == BUDGET
+        if self.bytes.len() > PIECE {
+            self.let_go()
+        }
     }
 
-    /// Takes the next piece from a source. After an answer other than `Piece` the inbox is as it was.
-    pub fn fill<C: Source>(&mut self, source: &mut C) -> Filled
-        requires { self.old.taken < budget }
-        ensures fills { Fills result self.old self.new (C.left source.old) (C.left source.new) }
-        ensures faults { FillFaults result (C.faults source.old) (C.faults source.new) }
+    // Lets go of what was passed over.
+    fn let_go(&mut self)
+        ensures { self.new ≡ record self.old { spent = 0 } }
     {
-        if self.bytes.reserve(PIECE).is_err() {
-            return Filled::NoMemory;
-        }
-        let_go(&mut self.bytes, self.start);
+        let left = self.bytes.len() - self.start;
+        self.bytes.copy_within(self.start.., 0);
+        self.bytes.truncate(left);
         self.start = 0;
+    }
+
+    /// Lets go of what was passed over, and takes the next piece from a source. After an `Err` none was taken.
+    pub fn take<C: Source>(&mut self, source: &mut C) -> Result<(), Cut>
+        ensures piece { OnOk result (TakesPiece self.old self.new (C.left source.old) (C.left source.new)) }
+        ensures cut { IfErr result (λ cut. CutShort cut self.old self.new (C.left source.old) (C.left source.new)) }
+        ensures faults { Counts (result ≡ Err cuts.Fault) (C.faults source.old) (C.faults source.new) }
+    {
+        self.let_go();
         let room = (BUDGET - self.taken).min(PIECE as u64) as usize;
+        if room == 0 {
+            return Err(Cut::Full);
+        }
+        if self.bytes.reserve(PIECE).is_err() {
+            return Err(Cut::NoMemory);
+        }
         match read_into(source, self.buffer.as_mut_slice(), room) {
-            Err(Failed) => Filled::Fault,
-            Ok(0) => Filled::Over,
+            Err(Failed) => Err(Cut::Fault),
+            Ok(0) => Err(Cut::Over),
             Ok(n) => {
                 add(&mut self.bytes, &self.buffer[..n]);
                 self.taken += n as u64;
-                Filled::Piece
+                Ok(())
             }
         }
     }
-}
-
-/// How a try to take a piece ended.
-#[derive(Clone, Copy, Debug, PartialEq, Eq)]
-pub enum Filled {
-    /// A piece was taken.
-    Piece,
-    /// Nothing is left.
-    Over,
-    /// The source failed.
-    Fault,
-    /// Memory ran out.
-    NoMemory,
-}
-
-// Lets the first bytes of a vector go.
-fn let_go(bytes: &mut Vec<u8>, start: usize)
-    requires { start ≤ vec_len bytes.old }
-    ensures items { bytes.new.items ≡ drop start bytes.old.items }
-    ensures capacity { vec_capacity bytes.new ≡ vec_capacity bytes.old }
-{
-    let left = bytes.len() - start;
-    bytes.copy_within(start.., 0);
-    bytes.truncate(left);
 }
 
 // Reads into the front of a buffer.

@@ -6,7 +6,7 @@ ghost use Rattle.zot_session.specs.declared.end.End.{End};
 ghost use Rattle.zot_session.specs.Ends.{EndsAs};
 ghost use Rattle.zot_session.specs.Messages.{Asks, Message, Messages};
 ghost use Rattle.zot_spell.specs.Wire.{request_bytes};
-ghost use Rattle.zot_wire.specs.Sent.{IsReadable};
+ghost use Rattle.zot_delivery.specs.Delivery.{IsReadable};
 
 /// The bytes of a connection give it at most one end.
 pub fn end_is_one()

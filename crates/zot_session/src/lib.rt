@@ -2,17 +2,17 @@
 #![tactic(auto)]
 
 mod answers;
+mod blank;
 mod body;
+mod cut;
 mod end;
 mod heading;
 mod inbox;
 mod laws;
-mod pieces;
 mod receiving;
+mod send_error;
 mod sending;
 mod serving;
-#[cfg(test)]
-mod tests;
 
 pub use crate::answers::Answers;
 pub use crate::body::BODY_LIMIT;

@@ -1,31 +1,22 @@
 //! Replies written to a sink.
-ghost use Rattle.std.specs.Prelude.{OnOk, OnErr};
+ghost use Rattle.std.specs.Prelude.{◌≡◌, Err, OnErr, OnOk};
 ghost use Rattle.std.specs.Option.{option_copied};
 ghost use Rattle.zot_outside.specs.Faults.{HasCause};
 ghost use Rattle.zot_outside.specs.Streams.{Appends};
+ghost use Rattle.zot_session.specs.Causes.{Counts};
 ghost use Rattle.zot_session.specs.Messages.{continue_of};
-ghost use Rattle.zot_session.specs.Sending.{SendFaults, Sends};
-ghost use Rattle.zot_session.specs.Session.{WritesPart};
+ghost use Rattle.zot_session.specs.Sending.{Sends, WritesPart};
+ghost use Rattle.zot_session.specs.declared.send_error.SendError.TheVariants as errors;
 ghost use Rattle.zot_spell.specs.Spelling.{MayHave, reply_bytes};
 
+use crate::send_error::SendError;
 use std::alloc::Global;
 use zot_head::Head;
 use zot_model::{Reply, Request};
 use zot_outside::{Failed, Sink};
 use zot_spell::spell_reply;
 
-/// How the sending of a reply ended.
-#[derive(Clone, Copy, Debug, PartialEq, Eq)]
-pub enum Sent {
-    /// The whole reply was written.
-    Whole,
-    /// The sink failed; a part of the reply was written.
-    Fault,
-    /// Memory ran out; nothing was written.
-    NoMemory,
-}
-
-/// Writes a reply to a request, or to a message that asks for nothing. `head` says that the method is HEAD, `close` that the connection closes behind the reply.
+/// Writes a reply to a request, or to a message that asks for nothing. `head` says that the method is HEAD, `close` that the connection closes after the reply.
 pub fn send<K: Sink>(
     alloc: Global,
     sink: &mut K,
@@ -33,17 +24,17 @@ pub fn send<K: Sink>(
     reply: &Reply,
     head: bool,
     close: bool,
-) -> Sent
+) -> Result<(), SendError>
     requires { MayHave (option_copied request) reply.now }
     ensures sends { Sends result (K.held sink.old) (reply_bytes (option_copied request.entry) reply.now head close) (K.held sink.new) }
-    ensures faults { SendFaults result (K.faults sink.old) (K.faults sink.new) }
+    ensures faults { Counts (result ≡ Err errors.Fault) (K.faults sink.old) (K.faults sink.new) }
 {
     match spell_reply(alloc, request, reply, head, close) {
         Ok(text) => match write_all(sink, text.as_slice()) {
-            Ok(()) => Sent::Whole,
-            Err(Failed) => Sent::Fault,
+            Ok(()) => Ok(()),
+            Err(Failed) => Err(SendError::Fault),
         },
-        Err(_) => Sent::NoMemory,
+        Err(_) => Err(SendError::NoMemory),
     }
 }
 

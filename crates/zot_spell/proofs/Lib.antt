@@ -2,4 +2,5 @@ pub mod AlikeLemmas
 pub mod BodyLemmas
 pub mod FitLemmas
 pub mod PlainLemmas
+pub mod RequestLemmas
 pub mod RestLemmas

@@ -1,5 +1,5 @@
 -- How a request is spelled on the wire (RFC 9112, section 3), from one member to another.
-use Rattle.std.specs.Prelude.{ℕ, Bool, if◌then◌else◌, List, [], ◌∷◌, ◌++◌, length, Option, Some, None, option_map, unwrap_or, codes}
+use Rattle.std.specs.Prelude.{ℕ, Bool, if◌then◌else◌, List, [], ◌∷◌, ◌++◌, length, Option, Some, None, map, option_map, unwrap_or, codes}
 use Rattle.std.specs.Fmt.{decimal}
 use Rattle.form_urlencoded.specs.Form.{extend_pairs}
 use Rattle.zot_digest.specs.Digest.{digest_text}
@@ -13,26 +13,29 @@ use Rattle.zot_model.specs.declared.mount.Mount.{Mount}
 use Rattle.zot_model.specs.declared.request.Request.{Request}
 use Rattle.zot_model.specs.declared.span.Span.{Span}
 use Rattle.zot_names.specs.Upload.{upload_text}
-use Rattle.zot_spell.specs.Fields.{crlf, field, size_field, type_field}
+use Rattle.zot_spell.specs.declared.field.Field.{Field}
+use Rattle.zot_spell.specs.declared.field_name.FieldName.{FieldName}
+use Rattle.zot_spell.specs.declared.field_name.FieldName.TheVariants as names
+use Rattle.zot_spell.specs.Heads.{field_of, fields_text}
 
--- the method of a call (RFC 9110, section 9.3)
-unfoldable pub method_text : Call → List ℕ
-method_text calls.Base = codes "GET"
-method_text (calls.GetBlob digest) = codes "GET"
-method_text (calls.HeadBlob digest) = codes "HEAD"
-method_text (calls.DeleteBlob digest) = codes "DELETE"
-method_text (calls.Post mount digest body) = codes "POST"
-method_text (calls.Patch id range body) = codes "PATCH"
-method_text (calls.Finish id range digest body) = codes "PUT"
-method_text (calls.UploadState id) = codes "GET"
-method_text (calls.PutManifest reference media body) = codes "PUT"
-method_text (calls.GetManifest reference) = codes "GET"
-method_text (calls.HeadManifest reference) = codes "HEAD"
-method_text (calls.DeleteManifest reference) = codes "DELETE"
-method_text (calls.Tags n last) = codes "GET"
-method_text (calls.Referrers digest filter) = codes "GET"
+-- ---- names with values
 
--- ---- targets (OCI Distribution Specification 1.1, "Endpoints")
+-- those of the names that have a value, with it
+abbrev pub present : {Name : Type 0} → List (Name × Option (List ℕ)) → List (Name × List ℕ)
+present [] = []
+present ((name, None) ∷ pairs) = present pairs
+present ((name, Some value) ∷ pairs) = (name, value) ∷ present pairs
+
+-- the fields that have a value
+abbrev pub fields_given : List (FieldName × Option (List ℕ)) → List Field
+fields_given fields = map (λ field. field_of field.0 field.1) (present fields)
+
+-- a query behind its `?`, where there is one
+unfoldable pub query_text : List ℕ → List ℕ
+query_text [] = []
+query_text (b ∷ form) = codes "?" ++ b ∷ form
+
+-- ---- the texts of a call's values
 
 -- the text that stands for nothing: an id that isn't one, media that aren't accepted
 abbrev pub dash : List ℕ
@@ -48,108 +51,129 @@ unfoldable pub reference_text : Reference → List ℕ
 reference_text (references.Tag tag) = tag
 reference_text (references.Digest digest) = digest_text digest
 
--- what stands behind the name in a call's path
-unfoldable pub path_of : Call → List ℕ
-path_of calls.Base = []
-path_of (calls.GetBlob digest) = codes "/blobs/" ++ digest_text digest
-path_of (calls.HeadBlob digest) = codes "/blobs/" ++ digest_text digest
-path_of (calls.DeleteBlob digest) = codes "/blobs/" ++ digest_text digest
-path_of (calls.Post mount digest body) = codes "/blobs/uploads/"
-path_of (calls.Patch id range body) = codes "/blobs/uploads/" ++ id_text id
-path_of (calls.Finish id range digest body) = codes "/blobs/uploads/" ++ id_text id
-path_of (calls.UploadState id) = codes "/blobs/uploads/" ++ id_text id
-path_of (calls.PutManifest reference media body) = codes "/manifests/" ++ reference_text reference
-path_of (calls.GetManifest reference) = codes "/manifests/" ++ reference_text reference
-path_of (calls.HeadManifest reference) = codes "/manifests/" ++ reference_text reference
-path_of (calls.DeleteManifest reference) = codes "/manifests/" ++ reference_text reference
-path_of (calls.Tags n last) = codes "/tags/list"
-path_of (calls.Referrers digest filter) = codes "/referrers/" ++ digest_text digest
-
--- a key with its value, where it has one
-abbrev pub pair_of : List ℕ → Option (List ℕ) → List (List ℕ × List ℕ)
-pair_of key None = []
-pair_of key (Some value) = (key, value) ∷ []
-
--- the keys of a mount
-abbrev pub mount_pairs : Option Mount → List (List ℕ × List ℕ)
-mount_pairs None = []
-mount_pairs (Some mount) = (codes "mount", digest_text mount.digest) ∷ pair_of (codes "from") mount.from
-
--- the keys of a call's query with their values, in the order mount, from, digest, n, last, artifactType
-unfoldable pub pairs_of : Call → List (List ℕ × List ℕ)
-pairs_of (calls.Post mount digest body) = mount_pairs mount ++ pair_of (codes "digest") (option_map digest_text digest)
-pairs_of (calls.Finish id range digest body) = pair_of (codes "digest") (Some (digest_text digest))
-pairs_of (calls.Tags n last) = pair_of (codes "n") (option_map decimal n) ++ pair_of (codes "last") last
-pairs_of (calls.Referrers digest filter) = pair_of (codes "artifactType") filter
-pairs_of _ = []
-
--- the text of pairs, as `form_urlencoded` writes it (URL Standard, section 5)
-abbrev pub form_text : List (List ℕ × List ℕ) → List ℕ
-form_text pairs = extend_pairs [] pairs
-
--- a query behind its `?`, where there is one
-unfoldable pub query_text : List ℕ → List ℕ
-query_text [] = []
-query_text (b ∷ form) = codes "?" ++ b ∷ form
-
--- the target of a request
-unfoldable pub target_text : Request → List ℕ
-target_text request = codes "/v2/" ++ unwrap_or request.name [] ++ path_of request.call ++ query_text (form_text (pairs_of request.call))
-
--- ---- fields
-
 -- the text of the media of a pushed manifest
 unfoldable pub media_value : Option Media → List ℕ
 media_value None = dash
 media_value (Some media) = media_text media
 
--- the media that a call names: those of a pushed manifest
-unfoldable pub media_in : Call → Option (List ℕ)
-media_in (calls.PutManifest reference media body) = Some (media_value media)
-media_in _ = None
-
 -- the text of a range, its first and its last place (OCI Distribution Specification 1.1, "Pushing a blob in chunks")
 abbrev pub span_text : Span → List ℕ
 span_text span = decimal span.start ++ codes "-" ++ decimal span.end
 
--- the range that a call names
-unfoldable pub range_in : Call → Option Span
-range_in (calls.Patch id range body) = range
-range_in (calls.Finish id range digest body) = range
-range_in _ = None
+-- the repository that may have a blob to be taken over
+abbrev pub mount_from : Option Mount → Option (List ℕ)
+mount_from None = None
+mount_from (Some mount) = mount.from
 
--- the field of a range, where there is one
-unfoldable pub span_field : Option Span → List ℕ
-span_field None = []
-span_field (Some span) = field (codes "Content-Range") (span_text span)
+-- ---- calls (OCI Distribution Specification 1.1, "Endpoints")
 
--- the field of a request that was handed on; this is its project's own
-unfoldable pub hop_field : Bool → List ℕ
-hop_field hop = if hop then field (codes "X-Zot-Cluster-Hop-Count") (codes "1") else []
+-- What a call has on the wire: its method (RFC 9110, section 9.3), what stands in the path after the name, the keys of
+-- its query, the media and the range that its fields name, and its body, where the method has one.
+pub record CallParts : Type 0 where
+  pub method : List ℕ
+  pub path : List ℕ
+  pub query : List (List ℕ × Option (List ℕ))
+  pub media : Option (List ℕ)
+  pub range : Option Span
+  pub body : Option (List ℕ)
 
--- the body of a call whose method has one: POST, PATCH and PUT
-unfoldable pub body_in : Call → Option (List ℕ)
-body_in (calls.Post mount digest body) = Some body
-body_in (calls.Patch id range body) = Some body
-body_in (calls.Finish id range digest body) = Some body
-body_in (calls.PutManifest reference media body) = Some body
-body_in _ = None
+-- a call that has a path alone
+abbrev pub plain_parts : List ℕ → List ℕ → CallParts
+plain_parts method path = record { method = method; path = path; query = []; media = None; range = None; body = None }
 
--- the field of a body's size, where the method has a body
-unfoldable pub body_field : Option (List ℕ) → List ℕ
-body_field None = []
-body_field (Some body) = size_field (length body)
+-- the parts of each call; the keys of a query come in the order mount, from, digest, n, last, artifactType
+unfoldable pub parts_of : Call → CallParts
+parts_of calls.Base = plain_parts (codes "GET") []
+parts_of (calls.GetBlob digest) = plain_parts (codes "GET") (codes "/blobs/" ++ digest_text digest)
+parts_of (calls.HeadBlob digest) = plain_parts (codes "HEAD") (codes "/blobs/" ++ digest_text digest)
+parts_of (calls.DeleteBlob digest) = plain_parts (codes "DELETE") (codes "/blobs/" ++ digest_text digest)
+parts_of (calls.Post mount digest body) = record (plain_parts (codes "POST") (codes "/blobs/uploads/")) {
+  query = (codes "mount", option_map (λ m. digest_text m.digest) mount) ∷ (codes "from", mount_from mount)
+      ∷ (codes "digest", option_map digest_text digest) ∷ [];
+  body = Some body;
+}
+parts_of (calls.Patch id range body) = record (plain_parts (codes "PATCH") (codes "/blobs/uploads/" ++ id_text id)) {
+  range = range;
+  body = Some body;
+}
+parts_of (calls.Finish id range digest body) = record (plain_parts (codes "PUT") (codes "/blobs/uploads/" ++ id_text id)) {
+  query = (codes "digest", Some (digest_text digest)) ∷ [];
+  range = range;
+  body = Some body;
+}
+parts_of (calls.UploadState id) = plain_parts (codes "GET") (codes "/blobs/uploads/" ++ id_text id)
+parts_of (calls.PutManifest reference media body) = record (plain_parts (codes "PUT") (codes "/manifests/" ++ reference_text reference)) {
+  media = Some (media_value media);
+  body = Some body;
+}
+parts_of (calls.GetManifest reference) = plain_parts (codes "GET") (codes "/manifests/" ++ reference_text reference)
+parts_of (calls.HeadManifest reference) = plain_parts (codes "HEAD") (codes "/manifests/" ++ reference_text reference)
+parts_of (calls.DeleteManifest reference) = plain_parts (codes "DELETE") (codes "/manifests/" ++ reference_text reference)
+parts_of (calls.Tags n last) = record (plain_parts (codes "GET") (codes "/tags/list")) {
+  query = (codes "n", option_map decimal n) ∷ (codes "last", last) ∷ [];
+}
+parts_of (calls.Referrers digest filter) = record (plain_parts (codes "GET") (codes "/referrers/" ++ digest_text digest)) {
+  query = (codes "artifactType", filter) ∷ [];
+}
 
--- the field that names whom the request is for; each member answers to this name
-unfoldable pub host_field : List ℕ
-host_field = field (codes "Host") (codes "member")
+-- ---- requests
+
+-- the query of a call, as `form_urlencoded` writes it (URL Standard, section 5)
+abbrev pub form_of : CallParts → List ℕ
+form_of parts = extend_pairs [] (present parts.query)
+
+-- the path of a request's target
+abbrev pub path_of : Request → List ℕ
+path_of request = codes "/v2/" ++ unwrap_or request.name [] ++ (parts_of request.call).path
+
+-- the target of a request
+unfoldable pub target_text : Request → List ℕ
+target_text request = path_of request ++ query_text (form_of (parts_of request.call))
 
 -- the first line: the method, the target and the version
 unfoldable pub request_line : Request → List ℕ
-request_line request = method_text request.call ++ codes " " ++ target_text request ++ codes " HTTP/1.1" ++ crlf
+request_line request = (parts_of request.call).method ++ codes " " ++ target_text request ++ codes " HTTP/1.1" ++ 13 ∷ 10 ∷ []
 
--- the bytes of a request: the first line, the fields, an empty line and the body
+-- the value of the field of a request that was handed on
+abbrev pub hop_value : Bool → Option (List ℕ)
+hop_value hop = if hop then Some (codes "1") else None
+
+-- The fields of a request before a body of that size, where the method has one. Each member answers to the host's name,
+-- and the field of a request that was handed on is this project's own.
+abbrev pub fields_of : Request → ℕ → List (FieldName × Option (List ℕ))
+fields_of request size =
+    let parts = parts_of request.call in
+    (names.Host, Some (codes "member")) ∷ (names.ContentType, parts.media) ∷ (names.ContentRange, option_map span_text parts.range)
+    ∷ (names.HopCount, hop_value request.hop) ∷ (names.ContentLength, option_map (λ body. decimal size) parts.body) ∷ []
+
+-- the head of a request before a body of that size: the first line, the fields and an empty line
+unfoldable pub request_head : Request → ℕ → List ℕ
+request_head request size = request_line request ++ fields_text (fields_given (fields_of request size))
+
+-- the body of a request, or no bytes where its method has none
+unfoldable pub body_of : Request → List ℕ
+body_of request = unwrap_or (parts_of request.call).body []
+
+-- the head of a request with its own body
+abbrev pub head_of : Request → List ℕ
+head_of request = request_head request (length (body_of request))
+
+-- the bytes of a request: its head and its body
 unfoldable pub request_bytes : Request → List ℕ
-request_bytes request =
-    request_line request ++ host_field ++ type_field (media_in request.call) ++ span_field (range_in request.call) ++ hop_field request.hop
-    ++ body_field (body_in request.call) ++ crlf ++ unwrap_or (body_in request.call) []
+request_bytes request = head_of request ++ body_of request
+
+-- the same request, handed on or not
+abbrev pub with_hop : Request → Bool → Request
+with_hop request hop = record request { hop = hop }
+
+-- the same call with another body, where its method has one
+abbrev pub call_with_body : Call → List ℕ → Call
+call_with_body (calls.Post mount digest body) other = calls.Post mount digest other
+call_with_body (calls.Patch id range body) other = calls.Patch id range other
+call_with_body (calls.Finish id range digest body) other = calls.Finish id range digest other
+call_with_body (calls.PutManifest reference media body) other = calls.PutManifest reference media other
+call_with_body call other = call
+
+-- the same request with another body, where its method has one
+abbrev pub with_body : Request → List ℕ → Request
+with_body request body = record request { call = call_with_body request.call body }

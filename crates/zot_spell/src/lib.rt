@@ -22,5 +22,7 @@ pub use crate::fields::{push_digest, push_filter, push_link, push_location, push
 pub use crate::laws::alike_replies;
 pub use crate::places::{manifest_place, upload_place};
 pub use crate::reply::{byte_media, json_media, name_of, push_lines, spell, spell_reply};
-pub use crate::request::spell_request;
+pub use crate::request::{
+    body_of, head_and_body, head_then_body, spell_request, spell_request_head,
+};
 pub use crate::status::push_status;

@@ -1,9 +1,9 @@
 //! The queries of requests.
-ghost use Rattle.std.specs.Prelude.{◌≡◌, OnOk, IfOk, codes, option_map, string_bytes};
+ghost use Rattle.std.specs.Prelude.{◌≡◌, OnOk, IfOk, [], ◌∷◌, codes, option_map, string_bytes};
 ghost use Rattle.std.specs.Fmt.{decimal};
 ghost use Rattle.form_urlencoded.specs.Form.{extend_pairs};
 ghost use Rattle.zot_digest.specs.Digest.{digest_text};
-ghost use Rattle.zot_spell.specs.Wire.{form_text, mount_pairs, pair_of, pairs_of};
+ghost use Rattle.zot_spell.specs.Wire.{form_of, mount_from, parts_of, present};
 
 use form_urlencoded::Serializer;
 use std::alloc::{AllocError, Global};
@@ -12,9 +12,9 @@ use zot_model::{Call, Mount};
 use zot_names::RepoName;
 
 /// The query of a call: its keys with their values.
-#[tactic(auto, unfolding(crate::specs::Wire::pairs_of))]
+#[tactic(auto, unfolding(crate::specs::Wire::parts_of))]
 pub fn form_of(alloc: Global, call: &Call) -> Result<String, AllocError>
-    ensures { IfOk result (λ form. string_bytes form ≡ form_text (pairs_of call.now)) }
+    ensures { IfOk result (λ form. string_bytes form ≡ form_of (parts_of call.now)) }
 {
     let mut form = Serializer::new(String::new(alloc));
     match call {
@@ -39,7 +39,10 @@ fn push_mount(
     form: &mut Serializer<Global>,
     mount: &Option<Mount>,
 ) -> Result<(), AllocError>
-    ensures { OnOk result (form.new ≡ record form.old { form = extend_pairs form.old.form (mount_pairs mount.now) }) }
+    ensures { OnOk result (form.new ≡ record form.old {
+      form = extend_pairs form.old.form (present ((codes "mount", option_map (λ m. digest_text m.digest) mount.now)
+          ∷ (codes "from", mount_from mount.now) ∷ []));
+    }) }
 {
     match mount {
         Some(mount) => {
@@ -53,7 +56,9 @@ fn push_mount(
 
 // Adds the repository that may have a blob to be taken over, where there is one.
 fn push_from(form: &mut Serializer<Global>, from: &Option<RepoName>) -> Result<(), AllocError>
-    ensures { OnOk result (form.new ≡ record form.old { form = extend_pairs form.old.form (pair_of (codes "from") from.now) }) }
+    ensures { OnOk result (form.new ≡ record form.old {
+      form = extend_pairs form.old.form (present ((codes "from", from.now) ∷ []));
+    }) }
 {
     match from {
         Some(name) => form.append_pair("from", name.as_str()),
@@ -68,7 +73,7 @@ fn push_digest(
     digest: &Option<Digest>,
 ) -> Result<(), AllocError>
     ensures { OnOk result (form.new ≡ record form.old {
-      form = extend_pairs form.old.form (pair_of (codes "digest") (option_map digest_text digest.now));
+      form = extend_pairs form.old.form (present ((codes "digest", option_map digest_text digest.now) ∷ []));
     }) }
 {
     match digest {
@@ -87,7 +92,7 @@ fn push_number(
     n: &Option<u64>,
 ) -> Result<(), AllocError>
     ensures { OnOk result (form.new ≡ record form.old {
-      form = extend_pairs form.old.form (pair_of (codes "n") (option_map decimal n.now));
+      form = extend_pairs form.old.form (present ((codes "n", option_map decimal n.now) ∷ []));
     }) }
 {
     match n {
@@ -105,7 +110,9 @@ fn push_words(
     key: &str,
     words: &Option<Words>,
 ) -> Result<(), AllocError>
-    ensures { OnOk result (form.new ≡ record form.old { form = extend_pairs form.old.form (pair_of key.now words.now) }) }
+    ensures { OnOk result (form.new ≡ record form.old {
+      form = extend_pairs form.old.form (present ((key.now, words.now) ∷ []));
+    }) }
 {
     match words {
         Some(words) => form.append_pair(key, words.as_str()),

@@ -1,11 +1,13 @@
 //! Requests as they stand on the wire.
-ghost use Rattle.std.specs.Prelude.{◌≡◌, ◌++◌, [], OnOk, IfOk, unwrap_or};
+ghost use Rattle.std.specs.Prelude.{◌≡◌, ℕ, ◌++◌, List, [], ◌∷◌, OnOk, IfOk, IsSome, codes, length, option_map, unwrap_or};
+ghost use Rattle.std.specs.Fmt.{decimal};
 ghost use Rattle.std.specs.Option.{option_copied};
 ghost use Rattle.zot_digest.specs.Digest.{digest_text};
-ghost use Rattle.zot_spell.specs.Fields.{crlf};
-ghost use Rattle.zot_spell.specs.Wire.{body_field, body_in, hop_field, host_field, id_text, media_in, method_text, path_of, query_text, range_in, reference_text, request_bytes, request_line, span_field, span_text, target_text};
+ghost use Rattle.zot_model.specs.declared.request.Request.{Request as ARequest};
+ghost use Rattle.zot_spell.specs.Wire.{body_of, fields_given, fields_of, head_of, hop_value, id_text, parts_of, query_text, reference_text, request_bytes, request_head, request_line, span_text, target_text, with_body, with_hop};
 
-use crate::fields::{push_field, push_size, push_type};
+use crate::field::{Field, add_field, add_length, push_fields};
+use crate::field_name::FieldName;
 use crate::query::form_of;
 use std::alloc::{AllocError, Global};
 use zot_digest::Digest;
@@ -13,20 +15,60 @@ use zot_media::Reference;
 use zot_model::{Call, Request, Span};
 use zot_names::UploadId;
 
-/// The bytes of a request, from one member to another (RFC 9112, section 3). It fails only where memory does.
+/// The head of a request, from one member to another, before a body of so many bytes where its method has one (RFC 9112, sections 2 to 6). Whether it was handed on is said by `hop`, and not by the request. It fails only where memory does.
+#[tactic(auto, unfolding(crate::specs::Wire::request_head, crate::specs::Wire::request_line, crate::specs::Wire::target_text))]
+pub fn spell_request_head(
+    alloc: Global,
+    request: &Request,
+    hop: bool,
+    size: u64,
+) -> Result<Vec<u8>, AllocError>
+    ensures { IfOk result (λ bytes. bytes.items ≡ request_head (with_hop request.now hop) size) }
+{
+    let mut out = Vec::new(alloc);
+    push_request_line(alloc, &mut out, request)?;
+    let fields = fields_of(alloc, request, hop, size)?;
+    push_fields(&mut out, fields.as_slice())?;
+    Ok(out)
+}
+
+/// The bytes of a request: its head and its body. It fails only where memory does.
 #[tactic(auto, unfolding(crate::specs::Wire::request_bytes))]
 pub fn spell_request(alloc: Global, request: &Request) -> Result<Vec<u8>, AllocError>
     ensures { IfOk result (λ bytes. bytes.items ≡ request_bytes request.now) }
 {
-    let mut out = Vec::new(alloc);
-    push_request_line(alloc, &mut out, request)?;
-    push_host(&mut out)?;
-    push_type(&mut out, media_in(&request.call))?;
-    push_span(alloc, &mut out, range_in(&request.call))?;
-    push_hop(&mut out, request.hop)?;
-    push_end(alloc, &mut out, body_in(&request.call))?;
+    let body = body_of(request);
+    let mut out = spell_request_head(alloc, request, request.hop, body.len() as u64)?;
+    out.extend_from_slice(body)?;
     Ok(out)
 }
+
+/// The body of a request, or no bytes where its method has none. Takes no memory.
+#[tactic(auto, unfolding(crate::specs::Wire::body_of))]
+pub fn body_of(request: &Request) -> &[u8]
+    ensures { result.now ≡ body_of request.now }
+{
+    match body_in(&request.call) {
+        Some(body) => body,
+        None => b"".as_slice(),
+    }
+}
+
+/// The head and the body of a request's bytes. Takes no memory.
+#[tactic(auto, unfolding(crate::specs::Wire::request_bytes))]
+pub fn head_and_body<'a>(request: &Request, bytes: &'a [u8]) -> (&'a [u8], &'a [u8])
+    requires { bytes.now ≡ request_bytes request.now }
+    ensures head { result.0.now ≡ head_of request.now }
+    ensures body { result.1.now ≡ body_of request.now }
+{
+    bytes.split_at(bytes.len() - body_of(request).len())
+}
+
+/// The law that the head of a request before so many bytes, and then as many bytes, are the bytes of the request with that body, where its method has one.
+pub fn head_then_body()
+    ensures { (request : ARequest) (body : List ℕ) → IsSome (parts_of request.call).body
+        → request_bytes (with_body request body) ≡ request_head request (length body) ++ body }
+{}
 
 // Adds the first line.
 #[tactic(auto, unfolding(crate::specs::Wire::request_line))]
@@ -41,9 +83,9 @@ fn push_request_line(alloc: Global, out: &mut Vec<u8>, request: &Request) -> Res
 }
 
 // The method of a call.
-#[tactic(auto, unfolding(crate::specs::Wire::method_text))]
+#[tactic(auto, unfolding(crate::specs::Wire::parts_of))]
 fn method_of(call: &Call) -> &'static str
-    ensures { result.now ≡ method_text call.now }
+    ensures { result.now ≡ (parts_of call.now).method }
 {
     match call {
         Call::HeadBlob(_) | Call::HeadManifest(_) => "HEAD",
@@ -78,15 +120,14 @@ fn push_name(out: &mut Vec<u8>, request: &Request) -> Result<(), AllocError>
 }
 
 // Adds what stands behind the name in a call's path.
-#[tactic(auto, unfolding(crate::specs::Wire::path_of))]
+#[tactic(auto, unfolding(crate::specs::Wire::parts_of))]
 fn push_path(alloc: Global, out: &mut Vec<u8>, call: &Call) -> Result<(), AllocError>
-    ensures { OnOk result (out.new.items ≡ out.old.items ++ path_of call.now) }
+    ensures { OnOk result (out.new.items ≡ out.old.items ++ (parts_of call.now).path) }
 {
     match call {
         Call::Base => Ok(()),
         Call::GetBlob(digest) | Call::HeadBlob(digest) | Call::DeleteBlob(digest) => {
-            out.extend_from_slice(b"/blobs/".as_slice())?;
-            push_digest(alloc, out, digest)
+            push_under(alloc, out, "/blobs/", digest)
         }
         Call::Post { .. } => out.extend_from_slice(b"/blobs/uploads/".as_slice()),
         Call::Patch { id, .. } | Call::Finish { id, .. } | Call::UploadState { id } => {
@@ -101,11 +142,21 @@ fn push_path(alloc: Global, out: &mut Vec<u8>, call: &Call) -> Result<(), AllocE
             push_reference(alloc, out, reference)
         }
         Call::Tags { .. } => out.extend_from_slice(b"/tags/list".as_slice()),
-        Call::Referrers { digest, .. } => {
-            out.extend_from_slice(b"/referrers/".as_slice())?;
-            push_digest(alloc, out, digest)
-        }
+        Call::Referrers { digest, .. } => push_under(alloc, out, "/referrers/", digest),
     }
+}
+
+// Adds a part of a path and the text of a digest.
+fn push_under(
+    alloc: Global,
+    out: &mut Vec<u8>,
+    part: &str,
+    digest: &Digest,
+) -> Result<(), AllocError>
+    ensures { OnOk result (out.new.items ≡ out.old.items ++ (part.now ++ digest_text digest.now)) }
+{
+    out.extend_from_slice(part.as_bytes())?;
+    push_digest(alloc, out, digest)
 }
 
 // Adds the text of a digest.
@@ -154,18 +205,48 @@ fn push_query(out: &mut Vec<u8>, form: &str) -> Result<(), AllocError>
     }
 }
 
-// Adds the field that names whom the request is for.
-#[tactic(auto, unfolding(crate::specs::Wire::host_field))]
-fn push_host(out: &mut Vec<u8>) -> Result<(), AllocError>
-    ensures { OnOk result (out.new.items ≡ out.old.items ++ host_field) }
+// The fields, before a body of so many bytes.
+fn fields_of(
+    alloc: Global,
+    request: &Request,
+    hop: bool,
+    size: u64,
+) -> Result<Vec<Field>, AllocError>
+    ensures { IfOk result (λ fields. fields.items ≡ fields_given (fields_of (with_hop request.now hop) size)) }
 {
-    push_field(out, b"Host".as_slice(), b"member".as_slice())
+    let mut fields = Vec::new(alloc);
+    add_some(alloc, &mut fields, FieldName::Host, Some("member"))?;
+    add_some(
+        alloc,
+        &mut fields,
+        FieldName::ContentType,
+        media_in(&request.call),
+    )?;
+    add_span(alloc, &mut fields, range_in(&request.call))?;
+    add_some(alloc, &mut fields, FieldName::HopCount, hop_text(hop))?;
+    add_size(alloc, &mut fields, body_in(&request.call), size)?;
+    Ok(fields)
+}
+
+// Adds a field, where it has a value.
+fn add_some(
+    alloc: Global,
+    fields: &mut Vec<Field>,
+    name: FieldName,
+    value: Option<&str>,
+) -> Result<(), AllocError>
+    ensures { OnOk result (fields.new.items ≡ fields.old.items ++ fields_given ((name, option_copied value.entry) ∷ [])) }
+{
+    match value {
+        Some(value) => add_field(alloc, fields, name, value.as_bytes()),
+        None => Ok(()),
+    }
 }
 
 // The media of a pushed manifest, or `-` where they aren't known.
-#[tactic(auto, unfolding(crate::specs::Wire::media_in, crate::specs::Wire::media_value))]
+#[tactic(auto, unfolding(crate::specs::Wire::parts_of, crate::specs::Wire::media_value))]
 fn media_in(call: &Call) -> Option<&'static str>
-    ensures { option_copied result ≡ media_in call.now }
+    ensures { option_copied result ≡ (parts_of call.now).media }
 {
     match call {
         Call::PutManifest { media, .. } => match media {
@@ -177,9 +258,9 @@ fn media_in(call: &Call) -> Option<&'static str>
 }
 
 // The range of a body in an upload.
-#[tactic(auto, unfolding(crate::specs::Wire::range_in))]
+#[tactic(auto, unfolding(crate::specs::Wire::parts_of))]
 fn range_in(call: &Call) -> Option<Span>
-    ensures { result ≡ range_in call.now }
+    ensures { result ≡ (parts_of call.now).range }
 {
     match call {
         Call::Patch { range, .. } | Call::Finish { range, .. } => *range,
@@ -188,14 +269,13 @@ fn range_in(call: &Call) -> Option<Span>
 }
 
 // Adds the field of a range, where there is one.
-#[tactic(auto, unfolding(crate::specs::Wire::span_field))]
-fn push_span(alloc: Global, out: &mut Vec<u8>, span: Option<Span>) -> Result<(), AllocError>
-    ensures { OnOk result (out.new.items ≡ out.old.items ++ span_field span) }
+fn add_span(alloc: Global, fields: &mut Vec<Field>, span: Option<Span>) -> Result<(), AllocError>
+    ensures { OnOk result (fields.new.items ≡ fields.old.items ++ fields_given ((FieldName.ContentRange, option_map span_text span) ∷ [])) }
 {
     match span {
         Some(span) => {
             let text = span_text(alloc, span)?;
-            push_field(out, b"Content-Range".as_slice(), text.as_slice())
+            add_field(alloc, fields, FieldName::ContentRange, text.as_slice())
         }
         None => Ok(()),
     }
@@ -213,22 +293,17 @@ fn span_text(alloc: Global, span: Span) -> Result<Vec<u8>, AllocError>
     Ok(text)
 }
 
-// Adds the field of a request that was handed on.
-#[tactic(auto, unfolding(crate::specs::Wire::hop_field))]
-fn push_hop(out: &mut Vec<u8>, hop: bool) -> Result<(), AllocError>
-    ensures { OnOk result (out.new.items ≡ out.old.items ++ hop_field hop) }
+// What the field of a request that was handed on says.
+fn hop_text(hop: bool) -> Option<&'static str>
+    ensures { option_copied result ≡ hop_value hop }
 {
-    if hop {
-        push_field(out, b"X-Zot-Cluster-Hop-Count".as_slice(), b"1".as_slice())
-    } else {
-        Ok(())
-    }
+    if hop { Some("1") } else { None }
 }
 
 // The body of a call whose method has one.
-#[tactic(auto, unfolding(crate::specs::Wire::body_in))]
+#[tactic(auto, unfolding(crate::specs::Wire::parts_of))]
 fn body_in(call: &Call) -> Option<&[u8]>
-    ensures { option_copied result ≡ body_in call.now }
+    ensures { option_copied result ≡ (parts_of call.now).body }
 {
     match call {
         Call::Post { body, .. }
@@ -239,18 +314,19 @@ fn body_in(call: &Call) -> Option<&[u8]>
     }
 }
 
-// Adds the field of a body's size, an empty line and the body.
-#[tactic(auto, unfolding(crate::specs::Wire::body_field))]
-fn push_end(alloc: Global, out: &mut Vec<u8>, body: Option<&[u8]>) -> Result<(), AllocError>
-    ensures { OnOk result (out.new.items ≡ out.old.items ++ (body_field (option_copied body.entry)
-        ++ (crlf ++ unwrap_or (option_copied body.entry) []))) }
+// Adds the field of a body's size, where there is a body.
+#[tactic(auto, unfolding(crate::specs::Heads::length_field_of))]
+fn add_size(
+    alloc: Global,
+    fields: &mut Vec<Field>,
+    body: Option<&[u8]>,
+    size: u64,
+) -> Result<(), AllocError>
+    ensures { OnOk result (fields.new.items ≡ fields.old.items
+        ++ fields_given ((FieldName.ContentLength, option_map (λ body. decimal size) (option_copied body.entry)) ∷ [])) }
 {
     match body {
-        Some(body) => {
-            push_size(alloc, out, body.len() as u64)?;
-            out.extend_from_slice(b"\r\n".as_slice())?;
-            out.extend_from_slice(body)
-        }
-        None => out.extend_from_slice(b"\r\n".as_slice()),
+        Some(_) => add_length(alloc, fields, size),
+        None => Ok(()),
     }
 }

@@ -11,5 +11,3 @@ pub mod Parting
 pub mod Joining
 pub mod Closing
 pub mod Calling
-pub mod Carried
-pub mod Counting

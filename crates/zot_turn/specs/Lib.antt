@@ -1,4 +1,3 @@
-pub mod Raising
 pub mod Seats
 pub mod Steps
 pub mod Turns

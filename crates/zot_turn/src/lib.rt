@@ -11,6 +11,3 @@ mod steps;
 pub use object::{Job, Object};
 pub use seat::{Seat, SeatAt};
 pub use shared::{NoMemory, Shared};
-
-#[cfg(test)]
-mod tests;

@@ -1,13 +1,22 @@
-use Rattle.std.proofs.Common.{◌≡◌, ℕ, ◌-◌, List}
-use Rattle.zot_session.specs.Receiving.{Came}
-use Rattle.zot_session.specs.Waiting.{budget}
+use Rattle.std.proofs.Common.{◌≡◌, ℕ, ◌-◌, List, Option}
+use Rattle.zot_head.specs.Progress.{Progress}
 use Rattle.zot_session.proofs.ChunkLemmas.{ReadSoFar}
+use Rattle.zot_session.specs.Cuts.{budget}
+use Rattle.zot_session.specs.Receiving.{Came}
+use Rattle.zot_session.specs.Waiting.{KeepsRoom, Waiting}
 use Rattle.zot_session.proofs.body.receive_chunks.Given as goal
 
 -- what was passed over gave out the body so far, and no call failed
+pub record SoFar (was is : Waiting) (body : List ℕ) (reader : Progress) (left left' : Option (List ℕ)) (faults faults' : ℕ) : Type 0 where
+  pub passed : List ℕ
+  pub came : List ℕ
+  pub pieces : Came was is passed came left left'
+  pub room : KeepsRoom was is
+  pub read : ReadSoFar passed body reader
+  pub kept : faults' ≡ faults
+
 abbrev pub invariant-pieces : goal.invariant-pieces
-invariant-pieces g l = (passed : List ℕ) × (came : List ℕ) × Came l.fn.inbox l.inbox passed came (g.C.Source.left l.fn.source) (g.C.Source.left l.source) × ReadSoFar passed l.body.items l.chunks
-    × (g.C.Source.faults l.source ≡ g.C.Source.faults l.fn.source)
+invariant-pieces g l = SoFar l.fn.inbox l.inbox l.body.items l.chunks (g.C.Source.left l.fn.source) (g.C.Source.left l.source) (g.C.Source.faults l.fn.source) (g.C.Source.faults l.source)
 
 abbrev pub decreases-pieces : goal.decreases-pieces
 decreases-pieces g l = budget - l.inbox.taken

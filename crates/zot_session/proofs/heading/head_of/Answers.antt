@@ -1,11 +1,9 @@
-use Rattle.std.proofs.Common.{◌≤◌, ◌++◌, length, take, refl, sym, ap, ◌∙◌, subst, arith}
-use Rattle.std.proofs.lemmas.List.{length-take, take-append-drop}
-use Rattle.zot_head.specs.Front.{IsCrowded, IsHead, IsNoHead}
-use Rattle.zot_head.specs.Front as fronts
-use Rattle.zot_session.specs.Waiting.{Waiting}
+use Rattle.std.proofs.Common.{◌≤◌, length, take, refl, sym, ap, subst, arith}
+use Rattle.std.proofs.lemmas.List.{length-take}
 use Rattle.std.specs.Prelude.{Err}
+use Rattle.zot_head.specs.Front.{IsCrowded, IsHead, IsNoHead}
 use Rattle.zot_session.proofs.HeadingLemmas.{crowded_head, head_within, heading_cut, invalid_head}
-use Rattle.zot_session.proofs.ReceiveLemmas.{refused_is}
+use Rattle.zot_session.proofs.ReceiveLemmas.{passes, refused_is}
 use Rattle.zot_session.proofs.heading.head_of.Goals as goal
 
 pub slice_bounds-read_head-end : goal.slice_bounds-read_head-end
@@ -19,23 +17,22 @@ pass-requires c = head_within c.args.inbox.now.bytes c.args.n c.requires
 
 pub returns-in-Ok : goal.returns-in-Ok
 returns-in-Ok c =
-    let is : IsHead (take c.args.n c.args.inbox.now.bytes) c.in-Ok.head = subst (λ b. IsHead (take c.args.n b) c.in-Ok.head) c.waiting.ensures c.in-Ok.ensures.head in (
-      take c.args.n c.args.inbox.now.bytes,
-      heading_cut c.args.inbox.now.bytes c.args.n c.in-Ok.head c.requires is,
-      sym (take-append-drop c.args.n c.args.inbox.now.bytes) ∙ ap (λ b. take c.args.n c.args.inbox.now.bytes ++ b) (sym (ap (λ (w : Waiting). w.bytes) c.pass.ensures)),
-      ap (λ (w : Waiting). w.taken) c.pass.ensures,
-    )
+    let is : IsHead (take c.args.n c.args.inbox.now.bytes) c.in-Ok.head = subst (λ b. IsHead (take c.args.n b) c.in-Ok.head) c.waiting.ensures c.in-Ok.ensures.head in record {
+      text = take c.args.n c.args.inbox.now.bytes;
+      heading = heading_cut c.args.inbox.now.bytes c.args.n c.in-Ok.head c.requires is;
+      bytes = passes c.args.inbox.now c.pass.new.self c.args.n c.pass.ensures.bytes;
+      taken = c.pass.ensures.taken;
+      held = c.pass.ensures.held;
+    }
 
 pub returns-in-Err-Bad : goal.returns-in-Err-Bad
 returns-in-Err-Bad c =
     let none = c.in-Err-Bad.ensures.bad (ap Err c.in-Err-Bad.field-0-is) in
     let is : IsNoHead (take c.args.n c.args.inbox.now.bytes) = subst (λ b. IsNoHead (take c.args.n b)) c.waiting.ensures none in
-    let r = invalid_head c.args.inbox.now.bytes c.args.n c.requires is in
-    refused_is c.refused.result _ c.args.inbox.now fronts.HeadInvalid c.refused.ensures r.0 r.1 refl
+    refused_is c.refused.result _ c.args.inbox.now c.refused.ensures (invalid_head c.args.inbox.now.bytes c.args.n c.requires is)
 
 pub returns-in-Err-TooLong : goal.returns-in-Err-TooLong
 returns-in-Err-TooLong c =
     let many = c.in-Err-TooLong.ensures.too_long.0 (ap Err c.in-Err-TooLong.field-0-is) in
     let is : IsCrowded (take c.args.n c.args.inbox.now.bytes) = subst (λ b. IsCrowded (take c.args.n b)) c.waiting.ensures many in
-    let r = crowded_head c.args.inbox.now.bytes c.args.n c.requires is in
-    refused_is c.refused-in-Err-TooLong.result _ c.args.inbox.now fronts.HeadTooLong c.refused-in-Err-TooLong.ensures r.0 r.1 refl
+    refused_is c.refused-in-Err-TooLong.result _ c.args.inbox.now c.refused-in-Err-TooLong.ensures (crowded_head c.args.inbox.now.bytes c.args.n c.requires is)

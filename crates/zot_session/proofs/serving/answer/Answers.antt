@@ -1,23 +1,27 @@
-use Rattle.std.proofs.Common.{Some, None, refl, subst}
+use Rattle.std.proofs.Common.{Some, None, refl, ap, subst}
 use Rattle.zot_route.specs.Routes.{Routes}
-use Rattle.zot_session.specs.Session.{answered, declined, is_head}
-use Rattle.zot_session.proofs.TurnLemmas.{sends_head}
+use Rattle.zot_session.specs.Exchanges.{answered, declined}
+use Rattle.zot_session.specs.Turn.{Replies}
+use Rattle.zot_spell.specs.Spelling.{reply_bytes}
+use Rattle.zot_session.proofs.TurnLemmas.{answer_sent}
 use Rattle.zot_session.proofs.serving.answer.Goals as goal
 
-pub returns-in-Request-clause-answered : goal.returns-in-Request-clause-answered
-returns-in-Request-clause-answered g c = record {
-  exchange = answered (record { head = c.args.head.now; body = c.args.body.items }) c.in-Request.request c.answer-reply.result;
-  message_is = refl;
-  routed = (subst (λ r. Routes c.args.head.now c.args.body.items r) c.in-Request.is c.in_ok-request.ensures.outcome, c.answer-reply.ensures.fits);
-  conducts = (c.answer-reply.new.self, c.answer-reply.ensures.meets, refl);
-  writes = sends_head c.send.result _ _ (Some c.in-Request.request) c.answer-reply.result c.is_head.result (is_head c.args.head.now) c.args.head.now.closes c.is_head.ensures c.send.ensures.sends;
-}
+pub returns-in-Ok-Request-clause-answered : goal.returns-in-Ok-Request-clause-answered
+returns-in-Ok-Request-clause-answered g c =
+    let r : Replies g.A.Answers.answers c.args.answers.now c.answer-reply.new.self (record { head = c.args.head.now; body = c.args.body.items }) = record {
+      exchange = answered (record { head = c.args.head.now; body = c.args.body.items }) c.in-Ok-Request.request c.answer-reply.result;
+      message_is = refl;
+      routed = (subst (λ r. Routes c.args.head.now c.args.body.items r) c.in-Ok-Request.field-0-is c.in-Ok-Request.ensures.outcome, c.answer-reply.ensures.fits);
+      conducts = (c.answer-reply.new.self, c.answer-reply.ensures.meets, refl);
+    } in
+    answer_sent g.A.Answers.answers c.send.result _ _ r _ (ap (λ head. reply_bytes (Some c.in-Ok-Request.request) c.answer-reply.result head c.args.head.now.closes) c.is_head.ensures) c.send.ensures.sends
 
-pub returns-in-Refused-clause-answered : goal.returns-in-Refused-clause-answered
-returns-in-Refused-clause-answered g c = record {
-  exchange = declined (record { head = c.args.head.now; body = c.args.body.items }) c.in-Refused.reply;
-  message_is = refl;
-  routed = subst (λ r. Routes c.args.head.now c.args.body.items r) c.in-Refused.is c.in_ok-request.ensures.outcome;
-  conducts = refl;
-  writes = sends_head c.send-in-Refused.result _ _ None c.in-Refused.reply c.is_head-in-Refused.result (is_head c.args.head.now) c.args.head.now.closes c.is_head-in-Refused.ensures c.send-in-Refused.ensures.sends;
-}
+pub returns-in-Ok-Refused-clause-answered : goal.returns-in-Ok-Refused-clause-answered
+returns-in-Ok-Refused-clause-answered g c =
+    let r : Replies g.A.Answers.answers c.args.answers.now c.args.answers.now (record { head = c.args.head.now; body = c.args.body.items }) = record {
+      exchange = declined (record { head = c.args.head.now; body = c.args.body.items }) c.in-Ok-Refused.reply;
+      message_is = refl;
+      routed = subst (λ r. Routes c.args.head.now c.args.body.items r) c.in-Ok-Refused.field-0-is c.in-Ok-Refused.ensures.outcome;
+      conducts = refl;
+    } in
+    answer_sent g.A.Answers.answers c.send-in-Ok-Refused.result _ _ r _ (ap (λ head. reply_bytes None c.in-Ok-Refused.reply head c.args.head.now.closes) c.is_head-in-Ok-Refused.ensures) c.send-in-Ok-Refused.ensures.sends

@@ -1,0 +1,10 @@
+pub mod ByteLemmas
+pub mod FieldLemmas
+pub mod QueryLemmas
+pub mod PathLemmas
+pub mod WrittenLemmas
+pub mod HeadLemmas
+pub mod AskLemmas
+pub mod CallLemmas
+pub mod DeliveryLemmas
+pub mod CarryLemmas

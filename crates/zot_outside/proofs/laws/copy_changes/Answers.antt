@@ -1,5 +1,0 @@
-use Rattle.zot_outside.proofs.ObjectLemmas.{changes-copy}
-use Rattle.zot_outside.proofs.laws.copy_changes.Goals as goal
-
-pub returns : goal.returns
-returns c = changes-copy

@@ -1,5 +1,0 @@
-use Rattle.zot_outside.proofs.ListingLemmas.{length-paths_behind}
-use Rattle.zot_outside.proofs.laws.listing_ends.Goals as goal
-
-pub returns : goal.returns
-returns c = length-paths_behind

@@ -1,8 +1,0 @@
-//! What is passed before a request is answered or a content is fetched.
-use crate::point::Point;
-
-/// A gate, which is told what is about to be done. A call may wait.
-pub trait Gate {
-    /// Passes the gate at a point.
-    fn pass(&self, point: &Point);
-}

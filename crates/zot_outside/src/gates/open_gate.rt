@@ -1,0 +1,10 @@
+//! A gate that is open.
+use crate::gates::{Gate, Point};
+
+/// A gate that lets everything pass at once.
+#[derive(Clone, Copy, Debug, PartialEq, Eq)]
+pub struct OpenGate;
+
+impl Gate for OpenGate {
+    fn pass(&self, _point: &Point) {}
+}

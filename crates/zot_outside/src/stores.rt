@@ -1,0 +1,22 @@
+//! Where objects are kept by their paths.
+
+mod files;
+mod folder_store;
+mod laws;
+mod listing;
+mod parts;
+mod paths;
+mod place;
+mod root;
+mod store;
+mod store_error;
+mod walk;
+
+pub use self::folder_store::FolderStore;
+pub use self::laws::{
+    append_changes, change_is_one, copy_changes, delete_changes, listed_as_held, listing_ends,
+    next_lists, put_changes,
+};
+pub use self::parts::Parts;
+pub use self::store::Store;
+pub use self::store_error::StoreError;

@@ -1,9 +1,0 @@
-pub mod ByteLemmas
-pub mod QueryLemmas
-pub mod PathLemmas
-pub mod FieldLemmas
-pub mod HeadLemmas
-pub mod WrittenLemmas
-pub mod AskLemmas
-pub mod SentLemmas
-pub mod SizeLemmas
