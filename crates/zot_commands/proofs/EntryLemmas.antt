@@ -7,8 +7,10 @@ use Rattle.zot_model.specs.declared.request.Request.{Request}
 use Rattle.zot_model.specs.History.{Entry, Run, Step}
 use Rattle.zot_model.specs.Plain.{MayAnswer}
 use Rattle.zot_model.specs.State.{Becomes, RepoState, RowState, repo_at}
-use Rattle.zot_session.specs.Session.{Conducts, Exchange, answered, declined}
-use Rattle.zot_commands.specs.Entries.{AnswersOver, AreEntries, IsAt, IsEntry, Records, StandsBefore, StaysAt, entry_of}
+use Rattle.zot_outside.proofs.MomentLemmas.{at_before, stays_itself, stays_through}
+use Rattle.zot_outside.specs.Moments.{IsAt, StaysAt}
+use Rattle.zot_session.specs.Exchanges.{Conducts, Exchange, answered, declined}
+use Rattle.zot_commands.specs.Entries.{AnswersOver, AreEntries, IsEntry, Records, StandsBefore, entry_of}
 
 named_faults : (old new : RowState) (moment : ℕ) (name : Option (List ℕ)) (call : Call) (reply : Reply)
     → IsSomeAnd name (λ n. (repo : RepoState) × Becomes old n repo new × MayAnswer moment (repo_at old n) call reply repo) → new.faults ≡ old.faults
@@ -16,18 +18,6 @@ named_faults old new moment None call reply h = absurd h
 named_faults old new moment (Some name) call reply h = h.1.faults
 
 -- ---- what the clock tells
-
-pub stays_itself : (told : Option ℕ) → StaysAt told told
-stays_itself None = tt
-stays_itself (Some moment) = refl
-
-pub stays_through : (told mid later : Option ℕ) → StaysAt told mid → StaysAt mid later → StaysAt told later
-stays_through None mid later h k = tt
-stays_through (Some moment) mid later h k = subst (λ t. StaysAt t later) h k
-
-at_before : (told later : Option ℕ) (moment : ℕ) → StaysAt told later → IsAt later moment → IsAt told moment
-at_before None later moment h k = tt
-at_before (Some m) later moment h k = subst (λ t. IsAt t moment) h k
 
 entry_before : (told later : Option ℕ) (faults : ℕ) (request : Request) (reply : Reply) (entry : Entry) → StaysAt told later → IsEntry later faults request reply entry → IsEntry told faults request reply entry
 entry_before told later faults request reply entry h k = record { call = k.call; moment = at_before told later entry.moment h k.moment; answer = k.answer; faults = k.faults }

@@ -4,7 +4,7 @@ use Rattle.std.specs.Prelude.{OnErr, OnOk, Result, Ok, Err}
 use Rattle.std.proofs.lemmas.List.{append_assoc}
 use Rattle.zot_outside.proofs.StreamLemmas.{Appends-append}
 use Rattle.zot_outside.specs.Streams.{Appends}
-use Rattle.zot_session.specs.Session.{WritesPart}
+use Rattle.zot_session.specs.Sending.{WritesPart}
 
 -- a part of the first text is a part of both
 pub part_of_both : (before after : Option (List ℕ)) (first second text : List ℕ) → text ≡ first ++ second → WritesPart before first after → WritesPart before text after

@@ -7,15 +7,8 @@ use Rattle.zot_model.specs.declared.row.RowCall.TheVariants.{Ask}
 use Rattle.zot_model.specs.declared.row.RowReply.TheVariants as answers
 use Rattle.zot_model.specs.History.{Entry, Run, Step}
 use Rattle.zot_model.specs.State.{RowState}
-use Rattle.zot_session.specs.Session.{Exchange, answered, declined}
-
--- a moment is the one that a clock tells, where it tells one
-abbrev pub IsAt : Option ℕ → ℕ → Type 0
-IsAt told moment = IfSome told (λ m. moment ≡ m)
-
--- a clock that told its moment tells the same
-abbrev pub StaysAt : Option ℕ → Option ℕ → Type 0
-StaysAt told later = IfSome told (λ m. later ≡ Some m)
+use Rattle.zot_outside.specs.Moments.{IsAt}
+use Rattle.zot_session.specs.Exchanges.{Exchange, answered, declined}
 
 -- an entry is that of a request and its reply, at the moment that the clock tells, with the table's storage faults after it
 pub record IsEntry (told : Option ℕ) (after : ℕ) (request : Request) (reply : Reply) (entry : Entry) : Type 0 where

@@ -9,7 +9,8 @@ use Rattle.zot_session.specs.declared.end.End.TheVariants as ends
 use Rattle.zot_session.specs.Ends.{EndsAs, HasFailed}
 use Rattle.zot_outside.specs.Faults.{Rose}
 use Rattle.zot_outside.specs.Streams.{Appends}
-use Rattle.zot_session.specs.Session.{Served, WritesPart}
+use Rattle.zot_session.specs.Sending.{WritesPart}
+use Rattle.zot_session.specs.Session.{Served}
 use Rattle.zot_commands.specs.Entries.{Records}
 
 -- the words of `pipe`

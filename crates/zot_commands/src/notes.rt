@@ -2,7 +2,7 @@
 ghost use Rattle.std.specs.Prelude.{[], ◌∷◌, ◌++◌, OnOk, OnErr, decimal};
 ghost use Rattle.zot_outside.specs.Faults.{HasCause};
 ghost use Rattle.zot_outside.specs.Streams.{Appends};
-ghost use Rattle.zot_session.specs.Session.{WritesPart};
+ghost use Rattle.zot_session.specs.Sending.{WritesPart};
 ghost use Rattle.zot_commands.specs.Program.{Notes, line, line_end, line_of};
 
 use itoa::Buffer;

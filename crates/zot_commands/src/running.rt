@@ -2,7 +2,7 @@
 ghost use Rattle.std.specs.Prelude.{◌≡◌, ◌≢◌, ◌↔◌, IfErr, IfOk, IsTrue, drop, false, true, map, string_bytes};
 ghost use Rattle.std.specs.IoError.{error_kind};
 ghost use Rattle.std.specs.declared.io.ErrorKind.TheVariants.{OutOfMemory};
-ghost use Rattle.zot_outside.specs.Faults.{Rose};
+ghost use Rattle.zot_session.specs.Causes.{Causes};
 ghost use Rattle.zot_session.specs.declared.end.End.{End as AnEnd};
 ghost use Rattle.zot_session.specs.declared.end.End.TheVariants as ends;
 ghost use Rattle.zot_commands.specs.Program.{Notes, Pipes, RefusesUnread, RefusesWords, RunsPipe, line_of, pipe_words, status_of, words_line, words_status};
@@ -32,10 +32,7 @@ pub fn run_given<T: Clock, C: Source, K: Sink, N: Sink>(
         (λ line. Notes line (N.held notes.old) (N.held notes.new) (N.faults notes.old) (N.faults notes.new))) }
     ensures unread { IfErr given (λ error. RefusesUnread (error_kind error) result.code ((clock.new ≡ clock.old) × (input.new ≡ input.old) × (output.new ≡ output.old))
         (λ line. Notes line (N.held notes.old) (N.held notes.new) (N.faults notes.old) (N.faults notes.new))) }
-    ensures read_fault { result.code ≡ 5 → Rose (C.faults input.old) (C.faults input.new) }
-    ensures read_kept { result.code ≢ 5 → C.faults input.new ≡ C.faults input.old }
-    ensures write_fault { result.code ≡ 6 → Rose (K.faults output.old) (K.faults output.new) }
-    ensures write_kept { result.code ≢ 6 → K.faults output.new ≡ K.faults output.old }
+    ensures causes { Causes (result.code ≡ 5) (result.code ≡ 6) (C.faults input.old) (C.faults input.new) (K.faults output.old) (K.faults output.new) }
 {
     match given {
         Ok(args) => run_waiting(
@@ -74,10 +71,7 @@ pub fn run_waiting<T: Clock, C: Source, K: Sink, N: Sink>(
         (λ line. Notes line (N.held notes.old) (N.held notes.new) (N.faults notes.old) (N.faults notes.new)) }
     ensures words { RefusesWords (map string_bytes words.now) result.code ((clock.new ≡ clock.old) × (input.new ≡ input.old) × (output.new ≡ output.old))
         (λ line. Notes line (N.held notes.old) (N.held notes.new) (N.faults notes.old) (N.faults notes.new)) }
-    ensures read_fault { result.code ≡ 5 → Rose (C.faults input.old) (C.faults input.new) }
-    ensures read_kept { result.code ≢ 5 → C.faults input.new ≡ C.faults input.old }
-    ensures write_fault { result.code ≡ 6 → Rose (K.faults output.old) (K.faults output.new) }
-    ensures write_kept { result.code ≢ 6 → K.faults output.new ≡ K.faults output.old }
+    ensures causes { Causes (result.code ≡ 5) (result.code ≡ 6) (C.faults input.old) (C.faults input.new) (K.faults output.old) (K.faults output.new) }
 {
     if !is_pipe(words) {
         note(notes, b"zotd: words", None);
@@ -148,10 +142,7 @@ fn pipe<T: Clock, C: Source, K: Sink>(
     output: &mut K,
 ) -> End
     ensures served { Pipes (T.moment clock.old) result (C.left input.old) (C.left input.new) (K.held output.old) (K.held output.new) }
-    ensures read_fault { result ≡ ends.ReadFault → Rose (C.faults input.old) (C.faults input.new) }
-    ensures read_kept { result ≢ ends.ReadFault → C.faults input.new ≡ C.faults input.old }
-    ensures write_fault { result ≡ ends.WriteFault → Rose (K.faults output.old) (K.faults output.new) }
-    ensures write_kept { result ≢ ends.WriteFault → K.faults output.new ≡ K.faults output.old }
+    ensures causes { Causes (result ≡ ends.ReadFault) (result ≡ ends.WriteFault) (C.faults input.old) (C.faults input.new) (K.faults output.old) (K.faults output.new) }
 {
     let mut table = RepoShard::new(alloc);
     serve_table(alloc, &mut table, clock, input, output)

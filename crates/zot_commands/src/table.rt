@@ -1,10 +1,11 @@
 //! A connection over one table of repositories.
 ghost use Rattle.std.specs.Prelude.{◌≡◌, ◌≢◌, IfSome};
 ghost use Rattle.zot_session.specs.Ends.{EndsAs, HasFailed};
-ghost use Rattle.zot_outside.specs.Faults.{Rose};
+ghost use Rattle.zot_session.specs.Causes.{Causes};
 ghost use Rattle.zot_session.specs.Session.{Served};
 ghost use Rattle.zot_session.specs.declared.end.End.TheVariants as ends;
-ghost use Rattle.zot_commands.specs.Entries.{Records, StaysAt};
+ghost use Rattle.zot_outside.specs.Moments.{StaysAt};
+ghost use Rattle.zot_commands.specs.Entries.{Records};
 
 use std::alloc::Global;
 use zot_model::{Reply, Request};
@@ -21,7 +22,8 @@ struct TableAnswers<'a, T: Clock> {
 
 impl<T: Clock> Answers for TableAnswers<'_, T> {
     ghost use Rattle.std.specs.Prelude.{◌≡◌};
-    ghost use Rattle.zot_commands.specs.Entries.{AnswersOver, StaysAt};
+    ghost use Rattle.zot_outside.specs.Moments.{StaysAt};
+    ghost use Rattle.zot_commands.specs.Entries.{AnswersOver};
 
     ghost answers = { λ old request reply new. AnswersOver request.name (T.moment old.clock.now) old.table.now request reply new.table.now
         × StaysAt (T.moment old.clock.now) (T.moment new.clock.now)
@@ -46,10 +48,7 @@ impl<T: Clock> TableAnswers<'_, T> {
         ensures clock { StaysAt (T.moment self.old.clock.now) (T.moment self.new.clock.now) }
         ensures served { Served (λ exchanges. Records (T.moment self.old.clock.now) self.old.table.now exchanges self.new.table.now) result (C.left source.old) (C.left source.new) (K.held sink.old) (K.held sink.new) }
         ensures of_bytes { ¬ HasFailed result → IfSome (C.left source.old) (λ bytes. EndsAs bytes result) }
-        ensures read_fault { result ≡ ends.ReadFault → Rose (C.faults source.old) (C.faults source.new) }
-        ensures read_kept { result ≢ ends.ReadFault → C.faults source.new ≡ C.faults source.old }
-        ensures write_fault { result ≡ ends.WriteFault → Rose (K.faults sink.old) (K.faults sink.new) }
-        ensures write_kept { result ≢ ends.WriteFault → K.faults sink.new ≡ K.faults sink.old }
+        ensures causes { Causes (result ≡ ends.ReadFault) (result ≡ ends.WriteFault) (C.faults source.old) (C.faults source.new) (K.faults sink.old) (K.faults sink.new) }
     {
         session(alloc, self, source, sink)
     }
@@ -66,10 +65,7 @@ pub fn serve_table<T: Clock, C: Source, K: Sink>(
     ensures clock { StaysAt (T.moment clock.old) (T.moment clock.new) }
     ensures served { Served (λ exchanges. Records (T.moment clock.old) table.old exchanges table.new) result (C.left source.old) (C.left source.new) (K.held sink.old) (K.held sink.new) }
     ensures of_bytes { ¬ HasFailed result → IfSome (C.left source.old) (λ bytes. EndsAs bytes result) }
-    ensures read_fault { result ≡ ends.ReadFault → Rose (C.faults source.old) (C.faults source.new) }
-    ensures read_kept { result ≢ ends.ReadFault → C.faults source.new ≡ C.faults source.old }
-    ensures write_fault { result ≡ ends.WriteFault → Rose (K.faults sink.old) (K.faults sink.new) }
-    ensures write_kept { result ≢ ends.WriteFault → K.faults sink.new ≡ K.faults sink.old }
+    ensures causes { Causes (result ≡ ends.ReadFault) (result ≡ ends.WriteFault) (C.faults source.old) (C.faults source.new) (K.faults sink.old) (K.faults sink.new) }
 {
     let mut answers = TableAnswers { table, clock };
     answers.serve(alloc, source, sink)

@@ -16,4 +16,4 @@ returns-clause-clock g c =
 
 pub returns-clause-served : goal.returns-clause-served
 returns-clause-served g c =
-    served_map _ _ _ _ _ _ _ (λ exchanges routed history. (conducts_run _ _ _ _ c.args.self.now c.session.new.answers exchanges history).0) c.session.ensures.served
+    served_map _ (λ exchanges routed history. (conducts_run _ _ _ _ c.args.self.now c.session.new.answers exchanges history).0) c.session.ensures.served
