@@ -6,7 +6,9 @@
 mod case;
 mod escapes;
 mod running;
+mod trouble;
 
 pub use crate::case::Case;
 pub use crate::escapes::{BadEscape, escape, unescape};
 pub use crate::running::run;
+pub use crate::trouble::{Trouble, confirm};

@@ -4,8 +4,6 @@
 mod bytes;
 mod hasher;
 mod reading;
-#[cfg(test)]
-mod tests;
 mod value;
 mod words;
 

@@ -6,8 +6,6 @@ mod kind;
 mod laws;
 mod media;
 mod reference;
-#[cfg(test)]
-mod tests;
 
 pub use crate::document::media_in;
 pub use crate::kind::Kind;

@@ -12,9 +12,6 @@ mod reached;
 mod repo_name;
 mod tag;
 mod tag_list;
-#[cfg(test)]
-mod tests;
-mod text;
 mod upload_id;
 
 pub use crate::glob::glob_matches;

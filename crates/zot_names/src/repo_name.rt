@@ -5,9 +5,9 @@ ghost use Rattle.zot_names.specs.Name.{IsName};
 
 use crate::name_error::NameError;
 use crate::parts::are_components;
-use crate::text::Text;
 use std::alloc::{AllocError, Global};
 use std::marker::Model;
+use zot_digest::Words;
 
 /// The most bytes that a name may have.
 const LIMIT: usize = 255;
@@ -15,7 +15,7 @@ const LIMIT: usize = 255;
 /// The name of a repository. Contracts see the list of its bytes, by which names are ordered.
 #[derive(Debug, Drop, PartialEq, Eq, PartialOrd, Ord)]
 pub struct RepoName {
-    text: Text,
+    text: Words,
 }
 
 impl Model for RepoName {
@@ -52,7 +52,7 @@ impl RepoName {
         ensures { result ≡ string_bytes string }
     {
         RepoName {
-            text: Text::new(string),
+            text: Words::new(string),
         }
     }
 

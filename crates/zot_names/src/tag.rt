@@ -5,9 +5,9 @@ ghost use Rattle.std.specs.String.{string_bytes};
 ghost use Rattle.zot_names.specs.Tag.{IsTag, is_tag_byte, is_word_byte};
 
 use crate::name_error::NameError;
-use crate::text::Text;
 use std::alloc::{AllocError, Global};
 use std::marker::Model;
+use zot_digest::Words;
 
 /// The most bytes that may stand behind the first one.
 const MORE: usize = 127;
@@ -15,7 +15,7 @@ const MORE: usize = 127;
 /// A tag. Contracts see the list of its bytes, by which tags are ordered.
 #[derive(Debug, Drop, PartialEq, Eq, PartialOrd, Ord)]
 pub struct Tag {
-    text: Text,
+    text: Words,
 }
 
 impl Model for Tag {
@@ -52,7 +52,7 @@ impl Tag {
         ensures { result ≡ string_bytes string }
     {
         Tag {
-            text: Text::new(string),
+            text: Words::new(string),
         }
     }
 

@@ -18,7 +18,7 @@ use Rattle.zot_head.proofs.FrontLemmas.{head_unique}
 use Rattle.zot_head.proofs.SentLemmas.{only_sent_is_read}
 use Rattle.zot_head.proofs.LineLemmas.{IsSettled, ends_found, extent_cut, extent_ends_at, extent_stays, extent_within, head_end_is}
 use Rattle.zot_model.specs.Valid.{body_limit}
-use Rattle.zot_session.specs.Messages.{HasHead, IsPartial, IsRead, IsRefused, Owes, continue_of, is_blank, refused_as}
+use Rattle.zot_session.specs.Messages.{HasHead, IsPartial, IsRead, IsRefused, Owes, continue_of, is_blank, refused_as, to_head, to_none}
 use Rattle.zot_session.specs.Receiving.{HeadDeclined, IsHeading}
 
 -- ---- what was found
@@ -43,7 +43,7 @@ found_head bytes found n h k = of_head (extent head_end head_limit bytes) n (sym
 
 -- nothing is owed where no head is whole
 owes_none : (bytes : List ℕ) (e : Extent) → extent head_end head_limit bytes ≡ e → ((n : ℕ) → e ≢ Ends n) → Owes bytes []
-owes_none bytes e h k = inr (λ head has. k has.size (sym h ∙ has.ends), refl)
+owes_none bytes e h k = to_none (λ head has. k has.size (sym h ∙ has.ends)) refl
 
 -- a head that isn't whole yet
 pub found_goes : (bytes : List ℕ) (found : Found) → found ≡ found_of (extent head_end head_limit bytes) → found ≡ founds.More → extent head_end head_limit bytes ≡ Goes
@@ -71,7 +71,7 @@ pub crowded_head : (bytes : List ℕ) (n : ℕ) → extent head_end head_limit b
 crowded_head bytes n h c = record {
   why = fronts.HeadTooLong;
   refused = subst (λ e. IsFrontBy body_limit bytes e (fronts.Refused fronts.HeadTooLong)) (sym h) (crowded c refl);
-  owed = inr (λ head has. has.is.few_lines (subst (λ m. IsCrowded (take m bytes)) (sym (same_size bytes n has.size h has.ends)) c), refl);
+  owed = to_none (λ head has. has.is.few_lines (subst (λ m. IsCrowded (take m bytes)) (sym (same_size bytes n has.size h has.ends)) c)) refl;
   reply_is = refl;
 }
 
@@ -80,7 +80,7 @@ pub invalid_head : (bytes : List ℕ) (n : ℕ) → extent head_end head_limit b
 invalid_head bytes n h c = record {
   why = fronts.HeadInvalid;
   refused = subst (λ e. IsFrontBy body_limit bytes e (fronts.Refused fronts.HeadInvalid)) (sym h) (invalid c refl);
-  owed = inr (λ head has. c.none head (subst (λ m. IsHead (take m bytes) head) (same_size bytes n has.size h has.ends) has.is), refl);
+  owed = to_none (λ head has. c.none head (subst (λ m. IsHead (take m bytes) head) (same_size bytes n has.size h has.ends) has.is)) refl;
   reply_is = refl;
 }
 
@@ -141,7 +141,7 @@ heading_has text more head h reads = record {
 
 -- what is owed after a head whose body is read
 pub heading_owes : (text more : List ℕ) (head : Head) → IsHeading text head → IsRead head.framing → Owes (text ++ more) (continue_of head)
-heading_owes text more head h reads = inl (head, heading_has text more head h reads, refl)
+heading_owes text more head h reads = to_head head (heading_has text more head h reads) refl
 
 -- and after one whose body isn't
 pub large_owes : (text more : List ℕ) (head : Head) → IsHeading text head → ¬ IsRead head.framing → Owes (text ++ more) []
@@ -149,7 +149,7 @@ large_owes text more head h large =
     let size = λ (other : Head) (has : HasHead (text ++ more) other). same_size (text ++ more) (length text) has.size (heading_ends text more head h) has.ends in
     let same = λ (other : Head) (has : HasHead (text ++ more) other).
     head_unique text head other h.is (subst (λ t. IsHead t other) (ap (λ m. take m (text ++ more)) (size other has) ∙ take_at text more (length text) refl) has.is) in
-    inr (λ other has. large (subst (λ x. IsRead x.framing) (sym (same other has)) has.reads), refl)
+    to_none (λ other has. large (subst (λ x. IsRead x.framing) (sym (same other has)) has.reads)) refl
 
 -- a body that isn't read for its size
 too_large : (head : Head) (framing : Framing) (more : List ℕ) → ¬ IsRead framing → with_body body_limit head framing more ≡ fronts.Refused fronts.SizeInvalid

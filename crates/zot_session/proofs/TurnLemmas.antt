@@ -22,12 +22,6 @@ use Rattle.zot_session.specs.Turn.{Answered, AnswersFront, GoesOn, RefusalEnds, 
 use Rattle.zot_session.specs.Waiting.{Waiting}
 use Rattle.zot_spell.specs.Spelling.{reply_bytes}
 
--- the status of the refusal of a message
-refused_status : (why : Refusal) → status_in (refused_as why) ≡ status_of why
-refused_status fronts.HeadInvalid = refl
-refused_status fronts.SizeInvalid = refl
-refused_status fronts.HeadTooLong = refl
-
 -- what stopped wrote a part
 stops_part : (error : SendError) (before after : Option (List ℕ)) (text : List ℕ) → StopsWriting error before text after → WritesPart before text after
 stops_part errors.Fault before after text h = h
@@ -71,7 +65,7 @@ module _ {A : Type 0} (answers : A → Request → Reply → A → Type 0) where
         took = r.took;
         writes = Appends-append held held' held'' r.text (closing_bytes r.why) r.writes (subst (λ t. Appends held' t held'') same whole);
         ends = receiving refl
-            (refused_there (record { why = r.why; before = r.text; is_refused = r.refused; owed = r.owed; text_is = refl; end_is = is_end ∙ ap (λ x. ends.Refused (status_in x)) r.reply_is ∙ ap (λ s. ends.Refused s) (refused_status r.why) }));
+            (refused_there (record { why = r.why; before = r.text; is_refused = r.refused; owed = r.owed; text_is = refl; end_is = is_end ∙ ap (λ x. ends.Refused (status_in x)) r.reply_is }));
       }
       by (stopped error is_end part) =
           let w = part_behind r.text (closing_bytes r.why) held held' held'' r.writes (subst (λ t. WritesPart held' t held'') same (stops_part error held' held'' (reply_bytes None reply false true) part)) in record {

@@ -1,5 +1,5 @@
--- The messages of a connection: what stands at the front of its bytes, one behind another (RFC 9112, sections 2.1 and 9.3).
-use Rattle.std.specs.Prelude.{◌≡◌, ⊤, ℕ, ◌≤◌, ◌==◌, Bool, if◌then◌else◌, List, [], ◌∷◌, length, take, ◌⊎◌, codes}
+-- The messages of a connection: what stands at the front of its bytes, one after another (RFC 9112, sections 2.1 and 9.3).
+use Rattle.std.specs.Prelude.{◌≡◌, ⊤, ℕ, ◌≤◌, ◌==◌, Bool, if◌then◌else◌, List, [], ◌∷◌, length, take, codes}
 use Rattle.zot_head.specs.declared.framing.Framing.{Framing}
 use Rattle.zot_head.specs.declared.framing.Framing.TheVariants as framings
 use Rattle.zot_head.specs.declared.head.Head.{Head}
@@ -7,10 +7,12 @@ use Rattle.zot_head.specs.Front.{IsFront, IsHead, Refusal}
 use Rattle.zot_head.specs.Front as fronts
 use Rattle.zot_head.specs.Limits.{head_limit}
 use Rattle.zot_head.specs.Lines.{Ends, blank_len, extent, head_end}
+use Rattle.zot_model.specs.declared.code.Code.{Code}
 use Rattle.zot_model.specs.declared.code.Code.TheVariants as reasons
 use Rattle.zot_model.specs.declared.reply.Reply.{Reply}
 use Rattle.zot_model.specs.declared.request.Request.{Request}
-use Rattle.zot_model.specs.Reply.{refusal}
+use Rattle.zot_model.specs.Codes.{status_of as code_status}
+use Rattle.zot_model.specs.Refusals.{refusal}
 use Rattle.zot_model.specs.Valid.{body_limit}
 use Rattle.zot_route.specs.declared.routed.Routed.TheVariants as routes
 use Rattle.zot_route.specs.Routes.{Routes}
@@ -20,7 +22,7 @@ pub record Message : Type 0 where
   pub head : Head
   pub body : List ℕ
 
--- a message stands at the front of the bytes, and the rest behind it
+-- a message stands at the front of the bytes, and the rest after it
 abbrev pub Stands : List ℕ → Message → List ℕ → Type 0
 Stands bytes message rest = IsFront body_limit bytes (fronts.Message message.head message.body rest)
 
@@ -32,7 +34,7 @@ IsPartial bytes = IsFront body_limit bytes fronts.Partial
 abbrev pub IsRefused : List ℕ → Refusal → Type 0
 IsRefused bytes why = IsFront body_limit bytes (fronts.Refused why)
 
--- the messages of a list of bytes, one behind another, and what is left behind them
+-- the messages of a list of bytes, one after another, and what is left after them
 abbrev pub Messages : List ℕ → List Message → List ℕ → Type 0
 Messages bytes [] rest = bytes ≡ rest
 Messages bytes (message ∷ messages) rest = (behind : List ℕ) × Stands bytes message behind × Messages behind messages rest
@@ -41,17 +43,19 @@ Messages bytes (message ∷ messages) rest = (behind : List ℕ) × Stands bytes
 abbrev pub Asks : Message → Request → Type 0
 Asks message request = Routes message.head message.body (routes.Request request)
 
--- the status of a message that is refused for its head or for the form of its body (RFC 9110, section 15.5; RFC 6585, section 5)
-abbrev pub status_of : Refusal → ℕ
-status_of fronts.HeadInvalid = 400
-status_of fronts.SizeInvalid = 413
-status_of fronts.HeadTooLong = 431
+-- the code of a message that is refused for its head or for the form of its body
+abbrev pub code_of : Refusal → Code
+code_of fronts.HeadInvalid = reasons.HeadInvalid
+code_of fronts.SizeInvalid = reasons.SizeInvalid
+code_of fronts.HeadTooLong = reasons.HeadTooLong
 
--- the reply to it, behind which the connection closes
+-- its status (RFC 9110, section 15.5; RFC 6585, section 5)
+abbrev pub status_of : Refusal → ℕ
+status_of why = code_status (code_of why)
+
+-- the reply to it, after which the connection closes
 abbrev pub refused_as : Refusal → Reply
-refused_as fronts.HeadInvalid = refusal 400 reasons.HeadInvalid
-refused_as fronts.SizeInvalid = refusal 413 reasons.SizeInvalid
-refused_as fronts.HeadTooLong = refusal 431 reasons.HeadTooLong
+refused_as why = refusal (code_of why)
 
 -- nothing but empty lines, of LF or CR LF
 abbrev pub is_blank : List ℕ → Bool
@@ -79,5 +83,6 @@ pub record HasHead (bytes : List ℕ) (head : Head) : Type 0 where
   pub reads : IsRead head.framing
 
 -- what is owed of the message at the front before its reply: a `100 Continue` where its head asks for one (RFC 9110, section 10.1.1)
-abbrev pub Owes : List ℕ → List ℕ → Type 0
-Owes bytes text = ((head : Head) × HasHead bytes head × (text ≡ continue_of head)) ⊎ (((head : Head) → ¬ HasHead bytes head) × (text ≡ []))
+pub data Owes (bytes text : List ℕ) : Type 0 where
+  to_head : (head : Head) → HasHead bytes head → text ≡ continue_of head → Owes bytes text
+  to_none : ((head : Head) → ¬ HasHead bytes head) → text ≡ [] → Owes bytes text

@@ -12,11 +12,8 @@ use crate::cut::Cut;
 use crate::inbox::Inbox;
 use std::alloc::Global;
 use zot_head::{ChunkError, Chunks, Framing};
-use zot_model::{Code, Reply};
+use zot_model::{BODY_LIMIT, Reply};
 use zot_outside::Source;
-
-/// The most bytes that a body has.
-pub const BODY_LIMIT: u64 = 67_108_864;
 
 /// What came of the body of a message.
 #[derive(Drop)]
@@ -118,9 +115,9 @@ fn broken(error: ChunkError) -> Option<Reply>
     ensures { result ≡ broken_as error }
 {
     match error {
-        ChunkError::Bad => Some(Reply::refused(400, Code::HeadInvalid)),
-        ChunkError::TooLong => Some(Reply::refused(431, Code::HeadTooLong)),
-        ChunkError::TooLarge => Some(Reply::refused(413, Code::SizeInvalid)),
+        ChunkError::Bad => Some(Reply::head_invalid()),
+        ChunkError::TooLong => Some(Reply::head_too_long()),
+        ChunkError::TooLarge => Some(Reply::size_invalid()),
         ChunkError::NoMemory => None,
     }
 }

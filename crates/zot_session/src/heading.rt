@@ -2,18 +2,16 @@
 ghost use Rattle.std.specs.Prelude.{◌≡◌, ◌≤◌, Err, IfErr, IfOk, length};
 ghost use Rattle.zot_head.specs.Limits.{head_limit};
 ghost use Rattle.zot_head.specs.Lines.{Ends, extent, head_end};
-ghost use Rattle.zot_model.specs.Reply.{refusal};
 ghost use Rattle.zot_session.specs.Causes.{Counts};
 ghost use Rattle.zot_session.specs.Receiving.{HeadCut, HeadIs, Heads};
 ghost use Rattle.zot_session.specs.Waiting.{piece};
 ghost use Rattle.zot_session.specs.declared.cut.Cut.TheVariants as cuts;
-ghost use Rattle.zot_session.specs.declared.heading.Heading.TheVariants as headings;
 
 use crate::cut::Cut;
 use crate::inbox::Inbox;
 use std::alloc::{AllocError, Global};
 use zot_head::{Found, Head, HeadError, find_head, read_head};
-use zot_model::{Code, Reply};
+use zot_model::Reply;
 use zot_outside::Source;
 
 /// What came of the head of a message.
@@ -43,7 +41,7 @@ pub fn receive_head<C: Source>(
                 Ok(heading) => return Ok(heading),
                 Err(_) => return Err(Cut::NoMemory),
             },
-            Found::TooLong => return Ok(refused(431, Code::HeadTooLong)),
+            Found::TooLong => return Ok(Heading::Refused(Reply::head_too_long())),
             Found::More => {}
         }
         match inbox.take(source) {
@@ -63,15 +61,8 @@ fn head_of(alloc: Global, inbox: &mut Inbox, n: usize) -> Result<Heading, AllocE
             inbox.pass(n);
             Ok(Heading::Whole(head))
         }
-        Err(HeadError::Bad) => Ok(refused(400, Code::HeadInvalid)),
-        Err(HeadError::TooLong) => Ok(refused(431, Code::HeadTooLong)),
+        Err(HeadError::Bad) => Ok(Heading::Refused(Reply::head_invalid())),
+        Err(HeadError::TooLong) => Ok(Heading::Refused(Reply::head_too_long())),
         Err(HeadError::NoMemory) => Err(AllocError),
     }
-}
-
-// A message that is refused for its head.
-fn refused(status: u16, code: Code) -> Heading
-    ensures { result ≡ headings.Refused (refusal status code) }
-{
-    Heading::Refused(Reply::refused(status, code))
 }

@@ -15,7 +15,6 @@ mod sending;
 mod serving;
 
 pub use crate::answers::Answers;
-pub use crate::body::BODY_LIMIT;
 pub use crate::end::End;
 pub use crate::laws::{end_is_one, requests_are_read};
 pub use crate::sending::write_all;

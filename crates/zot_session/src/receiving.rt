@@ -7,14 +7,14 @@ ghost use Rattle.zot_session.specs.Waiting.{piece};
 ghost use Rattle.zot_session.specs.declared.end.End.TheVariants as ends;
 
 use crate::blank::is_blank;
-use crate::body::{BODY_LIMIT, Body, receive_body};
+use crate::body::{Body, receive_body};
 use crate::end::End;
 use crate::heading::{Heading, receive_head};
 use crate::inbox::Inbox;
 use crate::sending::send_continue;
 use std::alloc::Global;
 use zot_head::{Framing, Head};
-use zot_model::{Code, Reply};
+use zot_model::{BODY_LIMIT, Reply};
 use zot_outside::{Failed, Sink, Source};
 
 /// What came of a message.
@@ -44,7 +44,7 @@ pub fn receive<C: Source, K: Sink>(
         Ok(Heading::Refused(reply)) => Ok(Received::Refused(reply)),
         Ok(Heading::Whole(head)) => {
             if !is_read(head.framing) {
-                return Ok(Received::Refused(Reply::refused(413, Code::SizeInvalid)));
+                return Ok(Received::Refused(Reply::size_invalid()));
             }
             match send_continue(sink, &head) {
                 Ok(()) => {}

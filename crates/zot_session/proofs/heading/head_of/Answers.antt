@@ -2,6 +2,7 @@ use Rattle.std.proofs.Common.{◌≤◌, length, take, refl, sym, ap, subst, ari
 use Rattle.std.proofs.lemmas.List.{length-take}
 use Rattle.std.specs.Prelude.{Err}
 use Rattle.zot_head.specs.Front.{IsCrowded, IsHead, IsNoHead}
+use Rattle.zot_session.specs.declared.heading.Heading.TheVariants as headings
 use Rattle.zot_session.proofs.HeadingLemmas.{crowded_head, head_within, heading_cut, invalid_head}
 use Rattle.zot_session.proofs.ReceiveLemmas.{passes, refused_is}
 use Rattle.zot_session.proofs.heading.head_of.Goals as goal
@@ -29,10 +30,10 @@ pub returns-in-Err-Bad : goal.returns-in-Err-Bad
 returns-in-Err-Bad c =
     let none = c.in-Err-Bad.ensures.bad (ap Err c.in-Err-Bad.field-0-is) in
     let is : IsNoHead (take c.args.n c.args.inbox.now.bytes) = subst (λ b. IsNoHead (take c.args.n b)) c.waiting.ensures none in
-    refused_is c.refused.result _ c.args.inbox.now c.refused.ensures (invalid_head c.args.inbox.now.bytes c.args.n c.requires is)
+    refused_is _ _ c.args.inbox.now (ap headings.Refused c.head_invalid.ensures) (invalid_head c.args.inbox.now.bytes c.args.n c.requires is)
 
 pub returns-in-Err-TooLong : goal.returns-in-Err-TooLong
 returns-in-Err-TooLong c =
     let many = c.in-Err-TooLong.ensures.too_long.0 (ap Err c.in-Err-TooLong.field-0-is) in
     let is : IsCrowded (take c.args.n c.args.inbox.now.bytes) = subst (λ b. IsCrowded (take c.args.n b)) c.waiting.ensures many in
-    refused_is c.refused-in-Err-TooLong.result _ c.args.inbox.now c.refused-in-Err-TooLong.ensures (crowded_head c.args.inbox.now.bytes c.args.n c.requires is)
+    refused_is _ _ c.args.inbox.now (ap headings.Refused c.head_too_long.ensures) (crowded_head c.args.inbox.now.bytes c.args.n c.requires is)

@@ -1,7 +1,8 @@
-use Rattle.std.proofs.Common.{◌≡◌, ◌++◌, ◌∙◌, subst}
+use Rattle.std.proofs.Common.{◌≡◌, ◌++◌, ◌∙◌, ap, subst}
 use Rattle.zot_head.specs.Front as fronts
 use Rattle.zot_head.specs.Limits.{head_limit}
 use Rattle.zot_head.specs.Lines.{Goes, extent, head_end}
+use Rattle.zot_session.specs.declared.heading.Heading.TheVariants as headings
 use Rattle.zot_session.specs.Messages.{refused_as}
 use Rattle.zot_session.specs.Receiving.{HeadDeclined}
 use Rattle.zot_session.proofs.HeadingLemmas.{found_goes, found_too_long, goes_partial}
@@ -18,7 +19,7 @@ pub returns-in-TooLong-clause-heads : goal.returns-in-TooLong-clause-heads
 returns-in-TooLong-clause-heads g c =
     let i = c.pieces.invariant in
     let declined = subst (λ b. HeadDeclined (refused_as fronts.HeadTooLong) b) c.waiting.ensures (found_too_long c.waiting.result.now c.find_head.result c.find_head.ensures.found c.in-TooLong.is) in
-    head_read c.refused.result c.pieces.inbox i.pieces i.holds (refused_is c.refused.result (refused_as fronts.HeadTooLong) c.pieces.inbox c.refused.ensures declined)
+    head_read (headings.Refused c.head_too_long.result) c.pieces.inbox i.pieces i.holds (refused_is (headings.Refused c.head_too_long.result) (refused_as fronts.HeadTooLong) c.pieces.inbox (ap headings.Refused c.head_too_long.ensures) declined)
 
 pub pieces-preserved : goal.pieces-preserved
 pieces-preserved g c =

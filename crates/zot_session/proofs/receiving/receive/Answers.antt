@@ -10,7 +10,7 @@ use Rattle.zot_session.proofs.receiving.receive.Goals as goal
 pub returns-then-not-is_read-clause-receives : goal.returns-then-not-is_read-clause-receives
 returns-then-not-is_read-clause-receives g c =
     let h = subst (λ x. Heads x c.args.inbox.now c.receive_head.new.inbox (g.C.Source.left c.args.source.now) (g.C.Source.left c.receive_head.new.source)) c.in-Ok-Whole.field-0-is c.in-Ok-Whole.ensures.heads in
-    subst (λ reply. MessageRefused reply c.args.inbox.now c.receive_head.new.inbox (g.C.Source.left c.args.source.now) (g.C.Source.left c.receive_head.new.source) (g.K.Sink.held c.args.sink.now) (g.K.Sink.held c.args.sink.now)) (sym c.refused.ensures)
+    subst (λ reply. MessageRefused reply c.args.inbox.now c.receive_head.new.inbox (g.C.Source.left c.args.source.now) (g.C.Source.left c.receive_head.new.source) (g.K.Sink.held c.args.sink.now) (g.K.Sink.held c.args.sink.now)) (sym c.size_invalid.ensures)
     (refused_for_size (g.K.Sink.held c.args.sink.now) h (λ r. let e = c.if-not-is_read.ensures.1 r in cc e))
 
 pub returns-in-Err-send_continue-clause-ends : goal.returns-in-Err-send_continue-clause-ends
