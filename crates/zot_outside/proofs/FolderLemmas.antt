@@ -13,7 +13,7 @@ use Rattle.std.specs.declared.fs.dir.DirEntry.{DirEntry}
 use Rattle.std.specs.declared.cmp.Ordering.{Ordering}
 use Rattle.std.specs.declared.cmp.Ordering.TheVariants.{Less, Equal, Greater}
 use Rattle.std.specs.Ordering.{is_gt, is_le, is_lt, ordering_reverse}
-use Rattle.zot_outside.proofs.ObjectLemmas.{path_total}
+use Rattle.zot_maps.proofs.Maps.{byte_order}
 use Rattle.zot_outside.specs.Listing.{FindsAbove, IsChild, LiesIn, child_path}
 use Rattle.zot_outside.specs.Objects.{path_cmp}
 
@@ -104,11 +104,11 @@ not_lt Greater h k = cc k
 -- of paths in order, those that aren't greater than a bound stand first
 pub parted : {Z : Type 0} (paths : List (String Z)) (bound : List ℕ) → IsSorted string_cmp paths → IsPartitionedBy (within bound) paths
 parted paths bound up i j d before inside le =
-    let far = sorted_far _ (ranks_by path_total string_bytes) paths up i j d before inside in
+    let far = sorted_far _ (ranks_by byte_order.total string_bytes) paths up i j d before inside in
     let one = string_bytes (get_or paths i d) in
     let other = string_bytes (get_or paths j d) in
-    let near : is_gt (path_cmp one other) ≡ false = back_not_lt (path_cmp one other) (ap is_lt (sym (path_total.antisymm other one)) ∙ far) in
-    not_gt_le _ (upto path_total one other bound near (le_not_gt _ le))
+    let near : is_gt (path_cmp one other) ≡ false = back_not_lt (path_cmp one other) (ap is_lt (sym (byte_order.total.antisymm other one)) ∙ far) in
+    not_gt_le _ (upto byte_order.total one other bound near (le_not_gt _ le))
 
 -- no other path that is greater is less than the first that is
 least_above : {Z : Type 0} (paths : List (String Z)) (bound : List ℕ) (i k : ℕ) (path d : String Z) → IsSorted string_cmp paths
@@ -117,9 +117,9 @@ least_above : {Z : Type 0} (paths : List (String Z)) (bound : List ℕ) (i k : �
 least_above paths bound i k path d up point inside is listed greater =
     let other = string_bytes (get_or paths k d) in
     elim (ltb k i) as (λ b. ltb k i ≡ b → path_cmp other (string_bytes path) ≢ Less) [
-      | true ↦ λ before. absurd (le_not_above (path_cmp other bound) (point.0 k d (omega arith) (ltb-true k i before)) (sym (path_total.antisymm bound other) ∙ greater))
+      | true ↦ λ before. absurd (le_not_above (path_cmp other bound) (point.0 k d (omega arith) (ltb-true k i before)) (sym (byte_order.total.antisymm bound other) ∙ greater))
       | false ↦ λ behind. subst (λ p. path_cmp other (string_bytes p) ≢ Less) (sym (is ∙ get_or_default paths i path d inside))
-          (not_lt _ (sorted_far _ (ranks_by path_total string_bytes) paths up i k d (ltb-false k i behind) listed))
+          (not_lt _ (sorted_far _ (ranks_by byte_order.total string_bytes) paths up i k d (ltb-false k i behind) listed))
     ] refl
 
 -- the first that is greater is the least
@@ -128,14 +128,14 @@ pub finds_above : {Z : Type 0} (paths : List (String Z)) (bound : List ℕ) (i :
 finds_above paths bound i None up point item =
     All-map (λ other. path_cmp bound other ≢ Less) string_bytes paths (λ k d inside.
     let past : length paths ≤ i = item.3 in
-    subst (λ o. o ≢ Less) (sym (path_total.antisymm bound (string_bytes (get_or paths k d)))) (le_not_above _ (point.0 k d (omega arith) (omega (arith, past)))))
+    subst (λ o. o ≢ Less) (sym (byte_order.total.antisymm bound (string_bytes (get_or paths k d)))) (le_not_above _ (point.0 k d (omega arith) (omega (arith, past)))))
 finds_above paths bound i (Some x) up point item =
     let inside : i < length paths = item.3.0 in
     let is : x.now ≡ get_or paths i x.now = item.1 in
     let path = string_bytes x.now in
     record {
       listed = (i, subst (λ n. i < n) (sym (length-map paths string_bytes)) inside, get_or-map string_bytes paths i x.now path inside ∙ ap string_bytes (sym is));
-      above = path_total.antisymm bound path ∙ gt_above _ (ap (within bound) is ∙ point.1 i x.now (omega arith) inside);
+      above = byte_order.total.antisymm bound path ∙ gt_above _ (ap (within bound) is ∙ point.1 i x.now (omega arith) inside);
       least = All-map (λ other. path_cmp bound other ≡ Less → path_cmp other path ≢ Less) string_bytes paths (λ k d listed greater.
           least_above paths bound i k x.now d up point inside is listed greater);
     }
@@ -145,7 +145,7 @@ equal_not_greater h = cc h
 
 -- a path isn't greater than itself, nor than one that it is less than
 pub not_behind_itself : (path bound : List ℕ) → bound ≡ path → path_cmp path bound ≢ Greater
-not_behind_itself path bound is h = equal_not_greater (sym (tied_itself path_total path) ∙ ap (path_cmp path) (sym is) ∙ h)
+not_behind_itself path bound is h = equal_not_greater (sym (tied_itself byte_order.total path) ∙ ap (path_cmp path) (sym is) ∙ h)
 
 pub not_behind : (path other : List ℕ) → path_cmp path other ≡ Less → path_cmp path other ≢ Greater
 not_behind path other less h = cc (sym less ∙ h)
@@ -154,8 +154,8 @@ not_behind path other less h = cc (sym less ∙ h)
 pub behind_bound : (path bound other : List ℕ) → path_cmp path bound ≢ Greater → path_cmp bound other ≡ Less → path_cmp path other ≡ Less
 behind_bound path bound other h less =
     elim (path_cmp path bound) as (λ r. path_cmp path bound ≡ r → path_cmp path other ≡ Less) [
-      | Less ↦ λ first. path_total.trans path bound other first less
-      | Equal ↦ λ tied. path_total.congr path bound other tied ∙ less
+      | Less ↦ λ first. byte_order.total.trans path bound other first less
+      | Equal ↦ λ tied. byte_order.total.congr path bound other tied ∙ less
       | Greater ↦ λ greater. absurd (h greater)
     ] refl
 

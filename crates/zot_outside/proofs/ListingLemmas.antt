@@ -13,7 +13,7 @@ use Rattle.std.specs.FinMap.{contains_key-keys, entries_sorted, find, get-entrie
 use Rattle.std.specs.FinMap.Entries.{below_all}
 use Rattle.std.specs.List.{list_any}
 use Rattle.std.specs.Ordering.{eq_by_cmp, is_lt, ordering_reverse}
-use Rattle.zot_outside.proofs.ObjectLemmas.{path_total, same_path, tied_paths}
+use Rattle.zot_maps.proofs.Maps.{byte_order, same_key, tied_keys}
 use Rattle.zot_outside.specs.Objects.{Follows, IsLast, IsNext, Objects, path_cmp, paths_behind}
 
 abbrev Entries : Type 0
@@ -38,14 +38,14 @@ less Greater h = cc h
 
 -- no path is below itself
 irreflexive : (path : List ℕ) → is_below path path ≡ false
-irreflexive path = ap is_lt (tied_itself path_total path)
+irreflexive path = ap is_lt (tied_itself byte_order.total path)
 
 -- of two paths only one is below the other
 asymmetric : (path other : List ℕ) → is_below path other ≡ true → is_below other path ≡ false
-asymmetric path other h = ap is_lt (path_total.antisymm other path ∙ ap ordering_reverse (less _ h))
+asymmetric path other h = ap is_lt (byte_order.total.antisymm other path ∙ ap ordering_reverse (less _ h))
 
 below_trans : (path other third : List ℕ) → is_below path other ≡ true → is_below other third ≡ true → is_below path third ≡ true
-below_trans path other third h k = ap is_lt (path_total.trans path other third (less _ h) (less _ k))
+below_trans path other third h k = ap is_lt (byte_order.total.trans path other third (less _ h) (less _ k))
 
 below_all_trans : (path other : List ℕ) (es : Entries) → is_below path other ≡ true → below_all path_cmp other es ≡ true → below_all path_cmp path es ≡ true
 below_all_trans path other [] h k = refl
@@ -59,7 +59,7 @@ found_above path q [] h held = cc held
 found_above path q (e ∷ es) h held =
     let parts = and_parts (is_below path e.0) (below_all path_cmp path es) h in
     elim (eq_by_cmp path_cmp q e.0) as (λ b. eq_by_cmp path_cmp q e.0 ≡ b → is_some (cond b (Some e.1) (find path_cmp q es)) ≡ true → is_below path q ≡ true) [
-      | true ↦ λ tied k. ap (is_below path) (tied_paths q e.0 tied) ∙ parts.0
+      | true ↦ λ tied k. ap (is_below path) (tied_keys byte_order q e.0 tied) ∙ parts.0
       | false ↦ λ free k. found_above path q es parts.1 k
     ] refl held
 
@@ -72,7 +72,7 @@ all_behind after (e ∷ es) h =
 
 -- an entry is found by its path
 found_first : (e : List ℕ × List ℕ) (es : Entries) → IsSome (find path_cmp e.0 (e ∷ es))
-found_first e es = ap (λ b. is_some (cond b (Some e.1) (find path_cmp e.0 es))) (same_path e.0)
+found_first e es = ap (λ b. is_some (cond b (Some e.1) (find path_cmp e.0 es))) (same_key byte_order e.0)
 
 -- what is found in the rest is found
 found_later : (q : List ℕ) (e : List ℕ × List ℕ) (es : Entries) → IsSome (find path_cmp q es) → IsSome (find path_cmp q (e ∷ es))
@@ -82,7 +82,7 @@ found_later q e es h = elim (eq_by_cmp path_cmp q e.0) as (λ b. is_some (cond b
 found_cases : (q : List ℕ) (e : List ℕ × List ℕ) (es : Entries) → IsSome (find path_cmp q (e ∷ es)) → (q ≡ e.0) ⊎ IsSome (find path_cmp q es)
 found_cases q e es h =
     elim (eq_by_cmp path_cmp q e.0) as (λ b. eq_by_cmp path_cmp q e.0 ≡ b → is_some (cond b (Some e.1) (find path_cmp q es)) ≡ true → (q ≡ e.0) ⊎ IsSome (find path_cmp q es)) [
-      | true ↦ λ tied k. inl (tied_paths q e.0 tied)
+      | true ↦ λ tied k. inl (tied_keys byte_order q e.0 tied)
       | false ↦ λ free k. inr k
     ] refl h
 
@@ -114,14 +114,14 @@ none_behind after (e ∷ es) last =
 
 -- a path that is greater and one that isn't are two
 apart_from : (after q k : List ℕ) → is_below after q ≡ true → is_below after k ≡ false → eq_by_cmp path_cmp q k ≡ false
-apart_from after q k h left = false_from_ne_true _ (λ tied. true≢false (sym h ∙ ap (is_below after) (tied_paths q k tied) ∙ left))
+apart_from after q k h left = false_from_ne_true _ (λ tied. true≢false (sym h ∙ ap (is_below after) (tied_keys byte_order q k tied) ∙ left))
 
 -- a path that stands among those that are greater is greater
 above_behind : (after q : List ℕ) (ks : List (List ℕ)) → list_any (eq_by_cmp path_cmp q) (filter (is_below after) ks) ≡ true → is_below after q ≡ true
 above_behind after q [] h = cc h
 above_behind after q (k ∷ ks) h =
     elim (is_below after k) as (λ b. is_below after k ≡ b → list_any (eq_by_cmp path_cmp q) (cond b (k ∷ filter (is_below after) ks) (filter (is_below after) ks)) ≡ true → is_below after q ≡ true) [
-      | true ↦ λ kept any. elim (or_cases (eq_by_cmp path_cmp q k) (list_any (eq_by_cmp path_cmp q) (filter (is_below after) ks)) any) [ inl tied ↦ ap (is_below after) (tied_paths q k tied) ∙ kept | inr later ↦ above_behind after q ks later ]
+      | true ↦ λ kept any. elim (or_cases (eq_by_cmp path_cmp q k) (list_any (eq_by_cmp path_cmp q) (filter (is_below after) ks)) any) [ inl tied ↦ ap (is_below after) (tied_keys byte_order q k tied) ∙ kept | inr later ↦ above_behind after q ks later ]
       | false ↦ λ left any. above_behind after q ks any
     ] refl h
 
@@ -164,12 +164,12 @@ length-paths_behind objects after =
 -- the greater ones are those that have an object and are greater
 pub held_behind : (objects : Objects) (after path : List ℕ) → IsSome (map.get objects path) → path_cmp after path ≡ Less → Contains (paths_behind objects after) path
 held_behind objects after path held above =
-    Contains-from_any tied_paths path (paths_behind objects after)
+    Contains-from_any (tied_keys byte_order) path (paths_behind objects after)
     (listed_behind after path (map.keys objects) (ap is_lt above) ∙ sym (contains_key-keys objects path) ∙ held)
 
 pub behind_held : (objects : Objects) (after path : List ℕ) → Contains (paths_behind objects after) path → IsSome (map.get objects path) × (path_cmp after path ≡ Less)
 behind_held objects after path listed =
-    let any = list_any-from_Contains (eq_by_cmp_equiv path_total) path (paths_behind objects after) listed in
+    let any = list_any-from_Contains (eq_by_cmp_equiv byte_order.total) path (paths_behind objects after) listed in
     let above = above_behind after path (map.keys objects) any in
     (contains_key-keys objects path ∙ sym (listed_behind after path (map.keys objects) above) ∙ any, less _ above)
 

@@ -23,6 +23,6 @@ requests_read (request ∷ requests) more all =
     let message : Message = record { head = head; body = body_of request } in (
       message ∷ rest.0,
       subst (λ (bytes : List ℕ). Messages bytes (message ∷ rest.0) more) (sym apart)
-      (behind, sent.front head body_limit behind read is.short (body_fits request is.values is.valid), rest.1),
+          (behind, sent.front head body_limit behind read is.short (body_fits request is.values is.valid), rest.1),
       (sent.asks head read, rest.2),
     )
