@@ -77,7 +77,7 @@ full_end bytes taken more rest exchanges is full all stay partial =
 
 -- a refusal, or a message that closes the connection, ends it whatever stands after it
 decided_end : (bytes taken more rest : List ℕ) (exchanges : List Exchange) (last : List Message) (end : End) → bytes ≡ taken ++ more → length taken ≤ budget → Messages taken (map message_of exchanges) rest → StayOpen exchanges
-    → ((full : Bool) (behind : List ℕ) → EndsAt full (rest ++ behind) last end) → EndsAs bytes end
+    → ((full : Bool) (next : List ℕ) → EndsAt full (rest ++ next) last end) → EndsAs bytes end
 decided_end bytes taken more rest exchanges last end is within all stay ends_so =
     let tail = take (budget - length taken) more in
     let cut : take budget bytes ≡ taken ++ tail = ap (take budget) is ∙ within_budget taken more within in record {

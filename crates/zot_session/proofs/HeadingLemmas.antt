@@ -199,9 +199,9 @@ within_by head (framings.Length n) bytes body rest other e = over (ltb body_limi
 within_by head framings.Chunked bytes body rest other e = by (chunked body_limit bytes) refl e
   where
     by : (read : Body) → chunked body_limit bytes ≡ read → with_chunks head read ≡ fronts.Message other body rest → length body ≤ body_limit
-    by (Whole given behind_) is h =
+    by (Whole given more) is h =
         let same : given ≡ body = cc h in
-        subst (λ b. length b ≤ body_limit) same (only_sent_is_read body_limit bytes given behind_ is).2
+        subst (λ b. length b ≤ body_limit) same (only_sent_is_read body_limit bytes given more is).2
     by (Unfinished given) is h = absurd (cc h)
     by (Broken given error) is h = absurd (cc h)
 

@@ -34,10 +34,10 @@ Messages-more bytes more [] rest h = ap (λ b. b ++ more) h
 Messages-more bytes more (message ∷ messages) rest h = (h.0 ++ more, stands_more bytes more message h.0 h.1, Messages-more h.0 more messages rest h.2)
 
 -- a message more
-pub Messages-push : (bytes : List ℕ) (messages : List Message) (rest : List ℕ) (last : Message) (behind : List ℕ) → Messages bytes messages rest → Stands rest last behind
-    → Messages bytes (messages ++ last ∷ []) behind
-Messages-push bytes [] rest last behind h k = (behind, subst (λ b. Stands b last behind) (sym h) k, refl)
-Messages-push bytes (message ∷ messages) rest last behind h k = (h.0, h.1, Messages-push h.0 messages rest last behind h.2 k)
+pub Messages-push : (bytes : List ℕ) (messages : List Message) (rest : List ℕ) (last : Message) (next : List ℕ) → Messages bytes messages rest → Stands rest last next
+    → Messages bytes (messages ++ last ∷ []) next
+Messages-push bytes [] rest last next h k = (next, subst (λ b. Stands b last next) (sym h) k, refl)
+Messages-push bytes (message ∷ messages) rest last next h k = (h.0, h.1, Messages-push h.0 messages rest last next h.2 k)
 
 -- the last message by itself
 pub Messages-last : (bytes : List ℕ) (messages : List Message) (last : Message) (rest : List ℕ) → Messages bytes (messages ++ last ∷ []) rest

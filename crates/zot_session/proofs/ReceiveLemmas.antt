@@ -195,7 +195,7 @@ module _ {head : Head} {was mid is : Waiting} {passed later : List ℕ} {left le
   body_holds room =
       let all = ap length (joined was mid h.text h.came later h.pieces.bytes ∙ ap (λ bytes. h.text ++ bytes) b.bytes) in
       let longer = length-append h.text (passed ++ is.bytes) in
-      let behind = length-append passed is.bytes in
+      let after = length-append passed is.bytes in
       let held_before = h.holds.within in
       let waited = h.holds.waits in
       let waits = room.waits in

@@ -28,8 +28,8 @@ stops_part errors.Fault before after text h = h
 stops_part errors.NoMemory before after text h = record { part = []; lost = text; whole = refl; written = subst (λ x. Appends before [] x) (sym h) (Appends-nil before) }
 
 -- a text of which the first part was written whole, and of the second a part
-part_behind : (first second : List ℕ) (before mid after : Option (List ℕ)) → Appends before first mid → WritesPart mid second after → WritesPart before (first ++ second) after
-part_behind first second before mid after h w = record {
+part_after : (first second : List ℕ) (before mid after : Option (List ℕ)) → Appends before first mid → WritesPart mid second after → WritesPart before (first ++ second) after
+part_after first second before mid after h w = record {
   part = first ++ w.part;
   lost = w.lost;
   whole = ap (λ t. first ++ t) w.whole ∙ sym (append_assoc first w.part w.lost);
@@ -68,7 +68,7 @@ module _ {A : Type 0} (answers : A → Request → Reply → A → Type 0) where
             (refused_there (record { why = r.why; before = r.text; is_refused = r.refused; owed = r.owed; text_is = refl; end_is = is_end ∙ ap (λ x. ends.Refused (status_in x)) r.reply_is }));
       }
       by (stopped error is_end part) =
-          let w = part_behind r.text (closing_bytes r.why) held held' held'' r.writes (subst (λ t. WritesPart held' t held'') same (stops_part error held' held'' (reply_bytes None reply false true) part)) in record {
+          let w = part_after r.text (closing_bytes r.why) held held' held'' r.writes (subst (λ t. WritesPart held' t held'') same (stops_part error held' held'' (reply_bytes None reply false true) part)) in record {
             came = r.came;
             text = w.part;
             took = r.took;
@@ -114,7 +114,7 @@ module _ {A : Type 0} (answers : A → Request → Reply → A → Type 0) where
     -- its reply wasn't written whole, or nothing was asked
     pub stop_unreplied : {error : SendError} (end : End) → end ≡ end_unsent error → Unreplied answers error old new (record { head = head; body = body }) held' held'' → Stops answers end old new left left' held held'' was is
     stop_unreplied {error} end is_end (reply_unsent a stops) =
-        let w = part_behind (continue_of (message_of a.exchange).head) (reply_of a.exchange) held held' held'' (continued r a) (stops_part error held' held'' (reply_of a.exchange) stops) in record {
+        let w = part_after (continue_of (message_of a.exchange).head) (reply_of a.exchange) held held' held'' (continued r a) (stops_part error held' held'' (reply_of a.exchange) stops) in record {
           came = r.came;
           text = w.part;
           took = r.took;

@@ -1,4 +1,4 @@
--- Requests that are spelled one behind another are as many messages.
+-- Requests that are spelled one after another are as many messages.
 use Rattle.std.proofs.Common.{◌≡◌, ℕ, List, [], ◌∷◌, ◌++◌, refl, sym, subst, append_assoc}
 use Rattle.std.specs.List.{AllByRecursion, AllZip, flat_map}
 use Rattle.zot_model.specs.declared.request.Request.{Request}
@@ -17,12 +17,12 @@ requests_read (request ∷ requests) more all =
     let sent = delivered request is.values is.valid in
     let head = sent.reads.0 in
     let read = sent.reads.1 in
-    let behind = flat_map request_bytes requests ++ more in
+    let next = flat_map request_bytes requests ++ more in
     let rest = requests_read requests more all.1 in
-    let apart : (request_bytes request ++ flat_map request_bytes requests) ++ more ≡ request_bytes request ++ behind = append_assoc (request_bytes request) (flat_map request_bytes requests) more in
+    let apart : (request_bytes request ++ flat_map request_bytes requests) ++ more ≡ request_bytes request ++ next = append_assoc (request_bytes request) (flat_map request_bytes requests) more in
     let message : Message = record { head = head; body = body_of request } in (
       message ∷ rest.0,
       subst (λ (bytes : List ℕ). Messages bytes (message ∷ rest.0) more) (sym apart)
-          (behind, sent.front head body_limit behind read is.short (body_fits request is.values is.valid), rest.1),
+          (next, sent.front head body_limit next read is.short (body_fits request is.values is.valid), rest.1),
       (sent.asks head read, rest.2),
     )

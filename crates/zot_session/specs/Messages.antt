@@ -37,7 +37,7 @@ IsRefused bytes why = IsFront body_limit bytes (fronts.Refused why)
 -- the messages of a list of bytes, one after another, and what is left after them
 abbrev pub Messages : List ℕ → List Message → List ℕ → Type 0
 Messages bytes [] rest = bytes ≡ rest
-Messages bytes (message ∷ messages) rest = (behind : List ℕ) × Stands bytes message behind × Messages behind messages rest
+Messages bytes (message ∷ messages) rest = (next : List ℕ) × Stands bytes message next × Messages next messages rest
 
 -- a message asks that request
 abbrev pub Asks : Message → Request → Type 0

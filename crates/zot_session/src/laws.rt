@@ -13,7 +13,7 @@ pub fn end_is_one()
     ensures { (bytes : List ℕ) (one other : End) → EndsAs bytes one → EndsAs bytes other → one ≡ other }
 {}
 
-/// Valid requests that are spelled one behind another, with heads that keep their limit, are as many messages at the front of whatever bytes they begin, and each message asks its request (RFC 9112, sections 2.1 and 9.3).
+/// Valid requests that are spelled one after another, with heads that keep their limit, are as many messages at the front of whatever bytes they begin, and each message asks its request (RFC 9112, sections 2.1 and 9.3).
 pub fn requests_are_read()
     ensures { (requests : List ARequest) (more : List ℕ) → AllByRecursion IsReadable requests
         → (messages : List Message) × Messages (flat_map request_bytes requests ++ more) messages more × AllZip Asks messages requests }
