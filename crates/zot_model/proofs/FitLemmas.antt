@@ -11,12 +11,11 @@ use Rattle.zot_model.specs.Codes.{HasDetail}
 use Rattle.zot_model.specs.declared.mount.Mount.{Mount}
 use Rattle.zot_model.specs.declared.reply.Reply.{Reply}
 use Rattle.zot_model.specs.declared.span.Span.{Span}
-use Rattle.zot_model.specs.declared.stored.Stored.{Stored}
 use Rattle.zot_model.specs.Fits.{FitsCall, IsAmong, codes_of, common_codes, finish_codes, upload_codes}
 use Rattle.zot_model.specs.Pieces.{goes_on, keeps_limit}
 use Rattle.zot_model.specs.Plain.{MayAnswer, Outcome, at_found, if_taken, plain, plain_begin, plain_finish, plain_get, plain_head, plain_patch, plain_post, plain_state}
 use Rattle.zot_model.specs.Refusals.{no_memory, refusal}
-use Rattle.zot_model.specs.State.{RepoState}
+use Rattle.zot_model.specs.State.{RepoState, RowState, Stored, repo_at}
 use Rattle.zot_model.specs.Uploads.{OpenUpload, is_full}
 
 -- each call on a repository may be refused with the common codes
@@ -141,6 +140,6 @@ plain_fits moment repo (calls.Tags n last) named = inr (inr (inl refl), refl, tt
 plain_fits moment repo (calls.Referrers digest filter) named = inr (inl refl, refl, tt)
 
 -- each answer to a call on a repository fits it
-pub answer_fits : (moment : ℕ) (old new : RepoState) (call : Call) (reply : Reply) → MayAnswer moment old call reply new → call ≢ calls.Base → FitsCall call reply
-answer_fits moment old new call reply (inl h) named = subst (λ (r : Reply). FitsCall call r) (sym h.reply_is) (plain_fits moment old call named)
-answer_fits moment old new call reply (inr h) named = subst (λ (r : Reply). FitsCall call r) (sym h.reply_is) (memory_fits call named)
+pub answer_fits : (moment : ℕ) (old new : RowState) (name : List ℕ) (call : Call) (reply : Reply) → MayAnswer moment old name call reply new → call ≢ calls.Base → FitsCall call reply
+answer_fits moment old new name call reply (inl h) named = subst (λ (r : Reply). FitsCall call r) (sym h.way.reply_is) (plain_fits moment (repo_at old name) call named)
+answer_fits moment old new name call reply (inr h) named = subst (λ (r : Reply). FitsCall call r) (sym h.way.reply_is) (memory_fits call named)

@@ -1,1 +1,3 @@
+pub mod AloneLemmas
 pub mod FitLemmas
+pub mod HistoryLemmas

@@ -13,12 +13,8 @@ use Rattle.zot_model.specs.declared.row.RowCall.TheVariants.{Ask}
 use Rattle.zot_model.specs.declared.row.RowReply.{RowReply}
 use Rattle.zot_model.specs.declared.row.RowReply.TheVariants as answers
 use Rattle.zot_model.specs.declared.span.Span.{Span}
+pub use Rattle.zot_model.specs.Among.{IsAmong}
 pub use Rattle.zot_model.specs.Codes.{HasDetail, IsDeclinedAs, SaysDiffer, SaysMethods, SaysMissing, SaysNothing, SaysSession, status_of}
-
--- the code is one of these
-abbrev pub IsAmong : List Code → Code → Type 0
-IsAmong [] code = ⊥
-IsAmong (other ∷ others) code = (code ≡ other) ⊎ IsAmong others code
 
 -- ---- refusals
 

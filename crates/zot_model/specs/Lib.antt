@@ -1,3 +1,5 @@
+pub mod Alone
+pub mod Among
 pub mod Calls
 pub mod Codes
 pub mod Fits

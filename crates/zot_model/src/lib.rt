@@ -15,15 +15,12 @@ mod reply;
 mod request;
 mod row;
 mod span;
-mod stored;
-#[cfg(test)]
-mod tests;
 mod values;
 
 pub use crate::call::Call;
 pub use crate::code::Code;
 pub use crate::detail::Detail;
-pub use crate::laws::{answers_fit, common_refusals_fit};
+pub use crate::laws::{answers_fit, common_refusals_fit, repositories_stand_alone};
 pub use crate::limits::{BODY_LIMIT, LAST_ID, MANIFEST_LIMIT, OPEN_LIMIT, UPLOAD_LIMIT};
 pub use crate::methods::Methods;
 pub use crate::mount::Mount;
@@ -31,5 +28,4 @@ pub use crate::reply::Reply;
 pub use crate::request::Request;
 pub use crate::row::{RowCall, RowReply};
 pub use crate::span::Span;
-pub use crate::stored::Stored;
 pub use crate::values::{has_values, real_values};

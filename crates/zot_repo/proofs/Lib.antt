@@ -1,3 +1,2 @@
-pub mod RowLemmas
 pub mod ReplyLemmas
-pub mod RepositoryLemmas
+pub mod RowLemmas

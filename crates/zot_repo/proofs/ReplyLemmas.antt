@@ -1,6 +1,12 @@
 -- What the parts of a repository's answer say is what the plain registry says.
-use Rattle.std.proofs.Common.{◌≡◌, ◌≢◌, ◌⊎◌, ℕ, ◌+◌, Bool, true, false, List, ◌++◌, length, Option, Some, None, inl, inr, refl, sym, ap, ◌∙◌, subst, if◌then◌else◌}
+use Rattle.std.proofs.Common.{◌≡◌, ◌≢◌, ◌⊎◌, ℕ, ◌+◌, Bool, true, false, cond, List, [], ◌∷◌, ◌++◌, length, Option, Some, None, inl, inr, refl, sym, ap, ◌∙◌, subst, if◌then◌else◌}
+use Rattle.std.specs.Prelude.{⊤}
+use Rattle.std.specs.BTreeMap.{is_at}
 use Rattle.std.specs.FinMap as map
+use Rattle.std.specs.FinMap.{get-empty}
+use Rattle.std.specs.Map.{lookup}
+use Rattle.zot_maps.proofs.Maps.{byte_order, get-entries, same_key}
+use Rattle.zot_digest.specs.ByteMap.{byte_cmp, map_of}
 use Rattle.std.proofs.lemmas.Slice.Eq.{bytes_eq-Decides}
 use Rattle.zot_digest.specs.Digest.{IsSound, is_sound}
 use Rattle.zot_model.specs.declared.call.Call.{Call}
@@ -11,39 +17,31 @@ use Rattle.zot_model.specs.declared.reply.Reply.{Reply}
 use Rattle.zot_model.specs.declared.reply.Reply.TheVariants.{BlobHead, BlobMade, Session}
 use Rattle.zot_model.specs.declared.span.Span.{Span}
 use Rattle.zot_model.specs.Pieces.{goes_on, keeps_limit}
-use Rattle.zot_model.specs.Plain.{MayAnswer, Outcome, at_found, found_or, if_taken, plain, plain_finish, plain_patch, plain_state, stays, with_blob, with_sessions, with_upload}
+use Rattle.zot_model.specs.Plain.{Outcome, at_found, found_or, if_taken, plain, plain_finish, plain_patch, plain_state, stays, with_blob, with_sessions, with_upload}
 use Rattle.zot_model.specs.Refusals.{no_memory, not_built, refusal}
-use Rattle.zot_model.proofs.FitLemmas.{answer_fits}
-use Rattle.zot_model.specs.Fits.{FitsCall}
-use Rattle.zot_model.specs.State.{Becomes, RepoState, RowState, fresh, repo_at}
-use Rattle.zot_repo.proofs.RowLemmas.{becomes_itself}
+use Rattle.zot_model.specs.State.{RepoState}
 use Rattle.zot_model.specs.Uploads.{OpenUpload, bytes_of, is_full, with_piece, without}
 use Rattle.zot_repo.specs.Refusals.{new_refusal, upload_refusal}
-use Rattle.zot_repo.specs.Replies.{EndsWith, GivesBlob, MayReply, TakesBlob, found_told, upload_told}
+use Rattle.zot_repo.specs.Replies.{EndsWith, GivesBlob, MayGive, TakesBlob, found_told, upload_told}
 use Rattle.zot_uploads.specs.Cases.{IsTaken, IsWhole, Refuses, RefusesNew, RefusesWhole}
 use Rattle.zot_uploads.specs.declared.upload_error.UploadError.{UploadError}
 use Rattle.zot_uploads.specs.declared.upload_error.UploadError.TheVariants as errors
 
 -- memory ran out, and nothing changed
-pub lacks : (moment : ℕ) (old new : RepoState) (call : Call) (reply : Reply) → reply ≡ no_memory → new ≡ old → MayAnswer moment old call reply new
-lacks moment old new call reply h same = inr (record {
-  reply_is = h;
-  blobs = ap (λ (r : RepoState). r.blobs) same;
-  sessions = ap (λ (r : RepoState). r.sessions) same;
-  known = λ k. ap (λ (r : RepoState). r.known) same ∙ k;
-})
+pub lacks : (moment : ℕ) (old new : RepoState) (call : Call) (reply : Reply) → reply ≡ no_memory → new ≡ old → MayGive moment old call reply new
+lacks moment old new call reply h same = inr (record { reply_is = h; leaves = inl same })
 
 -- the reply and the repository are those of the case that fits
-pub is_plain : (moment : ℕ) (old new : RepoState) (call : Call) (reply : Reply) (outcome : Outcome) → plain moment old call ≡ outcome → reply ≡ outcome.reply → new ≡ outcome.repo → MayAnswer moment old call reply new
+pub is_plain : (moment : ℕ) (old new : RepoState) (call : Call) (reply : Reply) (outcome : Outcome) → plain moment old call ≡ outcome → reply ≡ outcome.reply → new ≡ outcome.repo → MayGive moment old call reply new
 is_plain moment old new call reply outcome is reply_is repo_is = inl (record {
   reply_is = reply_is ∙ ap (λ (o : Outcome). o.reply) (sym is);
   repo_is = repo_is ∙ ap (λ (o : Outcome). o.repo) (sym is);
 })
 
 -- the same repository and the same call, told otherwise
-pub at_call : (moment : ℕ) (old inside new : RepoState) (call other : Call) (reply : Reply) → inside ≡ old → other ≡ call → MayAnswer moment inside other reply new → MayAnswer moment old call reply new
+pub at_call : (moment : ℕ) (old inside new : RepoState) (call other : Call) (reply : Reply) → inside ≡ old → other ≡ call → MayGive moment inside other reply new → MayGive moment old call reply new
 at_call moment old inside new call other reply is same h =
-    subst (λ (q : Call). MayAnswer moment old q reply new) same (subst (λ (r : RepoState). MayAnswer moment r other reply new) is h)
+    subst (λ (q : Call). MayGive moment old q reply new) same (subst (λ (r : RepoState). MayGive moment r other reply new) is h)
 
 chosen : (b : Bool) (x y : Outcome) → b ≡ false → (if b then x else y) ≡ y
 chosen true x y h = cc h
@@ -67,20 +65,20 @@ sound digest bytes h = (bytes_eq-Decides digest _).1 h
 -- ---- blobs
 
 -- a GET is answered as the plain registry does
-pub get_answers : (moment : ℕ) (repo : RepoState) (digest : List ℕ) (reply : Reply) → GivesBlob (map.get repo.blobs digest) digest reply → MayAnswer moment repo (calls.GetBlob digest) reply repo
+pub get_answers : (moment : ℕ) (repo : RepoState) (digest : List ℕ) (reply : Reply) → GivesBlob (map.get repo.blobs digest) digest reply → MayGive moment repo (calls.GetBlob digest) reply repo
 unfolding plain
 get_answers moment repo digest reply (inl is) = inl (record { reply_is = is; repo_is = refl })
 get_answers moment repo digest reply (inr memory) = lacks moment repo repo (calls.GetBlob digest) reply memory refl
 
 -- a HEAD is answered as the plain registry does
 pub head_answers : (moment : ℕ) (repo : RepoState) (digest : List ℕ) (reply : Reply) → reply ≡ found_or (λ stored. BlobHead digest (length stored.bytes)) (map.get repo.blobs digest)
-    → MayAnswer moment repo (calls.HeadBlob digest) reply repo
+    → MayGive moment repo (calls.HeadBlob digest) reply repo
 unfolding plain
 head_answers moment repo digest reply is = inl (record { reply_is = is; repo_is = refl })
 
 -- a POST of a blob with its digest is answered as the plain registry does
 pub post_answers : (moment : ℕ) (repo new : RepoState) (mount : Option Mount) (digest body : List ℕ) (reply : Reply) → TakesBlob moment repo digest body reply new
-    → MayAnswer moment repo (calls.Post mount (Some digest) body) reply new
+    → MayGive moment repo (calls.Post mount (Some digest) body) reply new
 unfolding plain
 post_answers moment repo new mount digest body reply (inl h) =
     is_plain moment repo new (calls.Post mount (Some digest) body) reply _ (chosen (is_sound digest body) _ _ (unsound digest body h.0)) h.1 h.2
@@ -92,12 +90,12 @@ post_answers moment repo new mount digest body reply (inr (inr h)) = lacks momen
 
 -- a POST of a new upload
 pub begun : (moment : ℕ) (repo new : RepoState) (mount : Option Mount) (body : List ℕ) (reply : Reply) → is_full repo.sessions ≡ false → reply ≡ Session (repo.sessions.opened + 1) 0 202 → new ≡ with_upload moment repo
-    → MayAnswer moment repo (calls.Post mount None body) reply new
+    → MayGive moment repo (calls.Post mount None body) reply new
 unfolding plain
 begun moment repo new mount body reply room is same = is_plain moment repo new (calls.Post mount None body) reply _ (chosen (is_full repo.sessions) _ _ room) is same
 
 full : (moment : ℕ) (repo new : RepoState) (mount : Option Mount) (body : List ℕ) (reply : Reply) → is_full repo.sessions ≡ true → reply ≡ refusal TooManyRequests → new ≡ repo
-    → MayAnswer moment repo (calls.Post mount None body) reply new
+    → MayGive moment repo (calls.Post mount None body) reply new
 unfolding plain
 full moment repo new mount body reply h is same = is_plain moment repo new (calls.Post mount None body) reply _ (taken (is_full repo.sessions) _ _ h) is same
 
@@ -112,7 +110,7 @@ or_memory errors.NoMemory = inl refl
 
 -- one that is refused
 pub not_begun : (moment : ℕ) (repo new : RepoState) (mount : Option Mount) (body : List ℕ) (error : UploadError) (reply : Reply) → RefusesNew repo.sessions error → reply ≡ new_refusal error → new ≡ repo
-    → MayAnswer moment repo (calls.Post mount None body) reply new
+    → MayGive moment repo (calls.Post mount None body) reply new
 not_begun moment repo new mount body errors.Full reply h is same = full moment repo new mount body reply h is same
 not_begun moment repo new mount body errors.Unknown reply h is same = absurd h
 not_begun moment repo new mount body (errors.Range end) reply h is same = absurd h
@@ -122,13 +120,13 @@ not_begun moment repo new mount body errors.NoMemory reply h is same = lacks mom
 
 -- a text that is no id
 pub unnamed_patch : (repo : RepoState) (id : Option ℕ) (range : Option Span) (piece : List ℕ) (reply : Reply) → id ≡ None → reply ≡ upload_refusal 0 errors.Unknown → (moment : ℕ)
-    → MayAnswer moment repo (calls.Patch id range piece) reply repo
+    → MayGive moment repo (calls.Patch id range piece) reply repo
 unfolding plain
 unnamed_patch repo None range piece reply e is moment = is_plain moment repo repo (calls.Patch None range piece) reply (stays repo (upload_refusal 0 errors.Unknown)) refl is refl
 unnamed_patch repo (Some id) range piece reply e is moment = cc e
 
 pub unnamed_finish : (moment : ℕ) (repo : RepoState) (id : Option ℕ) (range : Option Span) (digest piece : List ℕ) (reply : Reply) → id ≡ None → reply ≡ upload_refusal 0 errors.Unknown
-    → MayAnswer moment repo (calls.Finish id range digest piece) reply repo
+    → MayGive moment repo (calls.Finish id range digest piece) reply repo
 unfolding plain
 unnamed_finish moment repo None range digest piece reply e is = is_plain moment repo repo (calls.Finish None range digest piece) reply (stays repo (upload_refusal 0 errors.Unknown)) refl is refl
 unnamed_finish moment repo (Some id) range digest piece reply e is = cc e
@@ -138,7 +136,7 @@ state_outcome repo id None = refl
 state_outcome repo id (Some upload) = refl
 
 -- a GET of an upload is answered as the plain registry does
-pub state_answers : (moment : ℕ) (repo : RepoState) (id : Option ℕ) (reply : Reply) → reply ≡ upload_told id repo.sessions → MayAnswer moment repo (calls.UploadState id) reply repo
+pub state_answers : (moment : ℕ) (repo : RepoState) (id : Option ℕ) (reply : Reply) → reply ≡ upload_told id repo.sessions → MayGive moment repo (calls.UploadState id) reply repo
 unfolding plain
 state_answers moment repo None reply is = is_plain moment repo repo (calls.UploadState None) reply _ refl is refl
 state_answers moment repo (Some id) reply is = is_plain moment repo repo (calls.UploadState (Some id)) reply _ (state_outcome repo id (map.get repo.sessions.uploads id)) is refl
@@ -173,18 +171,18 @@ patch_outcome repo id (Some upload) range piece h = taken_outcome repo id upload
 
 pub patch_made : (repo new : RepoState) (id : ℕ) (range : Option Span) (piece : List ℕ) (reply : Reply) → IsTaken (map.get repo.sessions.uploads id) range piece
     → reply ≡ Session id (length (bytes_of (map.get repo.sessions.uploads id)) + length piece) 202 → new ≡ with_sessions repo (with_piece repo.sessions id piece)
-    → (moment : ℕ) → MayAnswer moment repo (calls.Patch (Some id) range piece) reply new
+    → (moment : ℕ) → MayGive moment repo (calls.Patch (Some id) range piece) reply new
 unfolding plain
 patch_made repo new id range piece reply h is same moment =
     is_plain moment repo new (calls.Patch (Some id) range piece) reply _ (patch_outcome repo id (map.get repo.sessions.uploads id) range piece h) is same
 
 -- PATCH of an upload that is refused
 pub patch_refused : (repo new : RepoState) (id : ℕ) (range : Option Span) (piece : List ℕ) (error : UploadError) (reply : Reply) → Refuses (map.get repo.sessions.uploads id) range piece error
-    → reply ≡ upload_refusal id error → new ≡ repo → (moment : ℕ) → MayAnswer moment repo (calls.Patch (Some id) range piece) reply new
+    → reply ≡ upload_refusal id error → new ≡ repo → (moment : ℕ) → MayGive moment repo (calls.Patch (Some id) range piece) reply new
 unfolding plain
 patch_refused repo new id range piece error reply h is same moment = patch_refused_by repo new id range piece error reply h is same moment (or_memory error) where
   patch_refused_by : (repo new : RepoState) (id : ℕ) (range : Option Span) (piece : List ℕ) (error : UploadError) (reply : Reply) → Refuses (map.get repo.sessions.uploads id) range piece error
-      → reply ≡ upload_refusal id error → new ≡ repo → (moment : ℕ) → (error ≡ errors.NoMemory) ⊎ (error ≢ errors.NoMemory) → MayAnswer moment repo (calls.Patch (Some id) range piece) reply new
+      → reply ≡ upload_refusal id error → new ≡ repo → (moment : ℕ) → (error ≡ errors.NoMemory) ⊎ (error ≢ errors.NoMemory) → MayGive moment repo (calls.Patch (Some id) range piece) reply new
   patch_refused_by repo new id range piece error reply h is same moment (inl memory) = lacks moment repo new (calls.Patch (Some id) range piece) reply (is ∙ ap (upload_refusal id) memory) same
   patch_refused_by repo new id range piece error reply h is same moment (inr other) =
       is_plain moment repo new (calls.Patch (Some id) range piece) reply _ (refused_outcome repo id (map.get repo.sessions.uploads id) range piece _ error h other) is same
@@ -206,11 +204,11 @@ whole_refused_outcome moment repo id found range digest piece errors.TooLarge h 
 
 -- PUT of an upload that is refused
 pub finish_refused : (moment : ℕ) (repo : RepoState) (id : ℕ) (range : Option Span) (digest piece : List ℕ) (error : UploadError) (reply : Reply) → RefusesWhole (map.get repo.sessions.uploads id) range piece digest error
-    → reply ≡ upload_refusal id error → MayAnswer moment repo (calls.Finish (Some id) range digest piece) reply repo
+    → reply ≡ upload_refusal id error → MayGive moment repo (calls.Finish (Some id) range digest piece) reply repo
 unfolding plain
 finish_refused moment repo id range digest piece error reply h is = finish_refused_by moment repo id range digest piece error reply h is (or_memory error) where
   finish_refused_by : (moment : ℕ) (repo : RepoState) (id : ℕ) (range : Option Span) (digest piece : List ℕ) (error : UploadError) (reply : Reply) → RefusesWhole (map.get repo.sessions.uploads id) range piece digest error
-      → reply ≡ upload_refusal id error → (error ≡ errors.NoMemory) ⊎ (error ≢ errors.NoMemory) → MayAnswer moment repo (calls.Finish (Some id) range digest piece) reply repo
+      → reply ≡ upload_refusal id error → (error ≡ errors.NoMemory) ⊎ (error ≢ errors.NoMemory) → MayGive moment repo (calls.Finish (Some id) range digest piece) reply repo
   finish_refused_by moment repo id range digest piece error reply h is (inl memory) = lacks moment repo repo (calls.Finish (Some id) range digest piece) reply (is ∙ ap (upload_refusal id) memory) refl
   finish_refused_by moment repo id range digest piece error reply h is (inr other) =
       is_plain moment repo repo (calls.Finish (Some id) range digest piece) reply _ (whole_refused_outcome moment repo id (map.get repo.sessions.uploads id) range digest piece error h other) is refl
@@ -225,7 +223,7 @@ whole_outcome moment repo id (Some upload) range digest piece h =
 
 -- PUT of an upload whose digest is right
 pub finish_made : (moment : ℕ) (repo new : RepoState) (id : ℕ) (range : Option Span) (digest piece bytes : List ℕ) (reply : Reply) → IsWhole (map.get repo.sessions.uploads id) range piece digest
-    → bytes ≡ bytes_of (map.get repo.sessions.uploads id) ++ piece → EndsWith moment repo id digest bytes reply new → MayAnswer moment repo (calls.Finish (Some id) range digest piece) reply new
+    → bytes ≡ bytes_of (map.get repo.sessions.uploads id) ++ piece → EndsWith moment repo id digest bytes reply new → MayGive moment repo (calls.Finish (Some id) range digest piece) reply new
 unfolding plain
 finish_made moment repo new id range digest piece bytes reply h are (inl made) =
     is_plain moment repo new (calls.Finish (Some id) range digest piece) reply _ (whole_outcome moment repo id (map.get repo.sessions.uploads id) range digest piece h) made.0
@@ -234,51 +232,52 @@ finish_made moment repo new id range digest piece bytes reply h are (inr memory)
 
 -- ---- other calls
 
-plain_unbuilt : (moment : ℕ) (repo : RepoState) (call : Call) → ((digest : List ℕ) → call ≢ calls.GetBlob digest) → ((digest : List ℕ) → call ≢ calls.HeadBlob digest)
-    → ((mount : Option Mount) (digest : Option (List ℕ)) (body : List ℕ) → call ≢ calls.Post mount digest body) → ((id : Option ℕ) → call ≢ calls.UploadState id)
-    → ((id : Option ℕ) (range : Option Span) (body : List ℕ) → call ≢ calls.Patch id range body) → ((id : Option ℕ) (range : Option Span) (digest body : List ℕ) → call ≢ calls.Finish id range digest body)
-    → plain moment repo call ≡ stays repo not_built
+-- a call that isn't built
+abbrev pub IsUnbuilt : Call → Type 0
+IsUnbuilt calls.Base = ⊤
+IsUnbuilt (calls.GetBlob digest) = ⊥
+IsUnbuilt (calls.HeadBlob digest) = ⊥
+IsUnbuilt (calls.DeleteBlob digest) = ⊤
+IsUnbuilt (calls.Post mount digest body) = ⊥
+IsUnbuilt (calls.Patch id range body) = ⊥
+IsUnbuilt (calls.Finish id range digest body) = ⊥
+IsUnbuilt (calls.UploadState id) = ⊥
+IsUnbuilt (calls.PutManifest reference media body) = ⊤
+IsUnbuilt (calls.GetManifest reference) = ⊤
+IsUnbuilt (calls.HeadManifest reference) = ⊤
+IsUnbuilt (calls.DeleteManifest reference) = ⊤
+IsUnbuilt (calls.Tags n last) = ⊤
+IsUnbuilt (calls.Referrers digest filter) = ⊤
+
+plain_unbuilt : (moment : ℕ) (repo : RepoState) (call : Call) → IsUnbuilt call → plain moment repo call ≡ stays repo not_built
 unfolding plain
-plain_unbuilt moment repo calls.Base g h p s u f = refl
-plain_unbuilt moment repo (calls.GetBlob digest) g h p s u f = absurd (g digest refl)
-plain_unbuilt moment repo (calls.HeadBlob digest) g h p s u f = absurd (h digest refl)
-plain_unbuilt moment repo (calls.DeleteBlob digest) g h p s u f = refl
-plain_unbuilt moment repo (calls.Post mount digest body) g h p s u f = absurd (p mount digest body refl)
-plain_unbuilt moment repo (calls.Patch id range body) g h p s u f = absurd (u id range body refl)
-plain_unbuilt moment repo (calls.Finish id range digest body) g h p s u f = absurd (f id range digest body refl)
-plain_unbuilt moment repo (calls.UploadState id) g h p s u f = absurd (s id refl)
-plain_unbuilt moment repo (calls.PutManifest reference media body) g h p s u f = refl
-plain_unbuilt moment repo (calls.GetManifest reference) g h p s u f = refl
-plain_unbuilt moment repo (calls.HeadManifest reference) g h p s u f = refl
-plain_unbuilt moment repo (calls.DeleteManifest reference) g h p s u f = refl
-plain_unbuilt moment repo (calls.Tags n last) g h p s u f = refl
-plain_unbuilt moment repo (calls.Referrers digest filter) g h p s u f = refl
+plain_unbuilt moment repo calls.Base h = refl
+plain_unbuilt moment repo (calls.GetBlob digest) h = absurd h
+plain_unbuilt moment repo (calls.HeadBlob digest) h = absurd h
+plain_unbuilt moment repo (calls.DeleteBlob digest) h = refl
+plain_unbuilt moment repo (calls.Post mount digest body) h = absurd h
+plain_unbuilt moment repo (calls.Patch id range body) h = absurd h
+plain_unbuilt moment repo (calls.Finish id range digest body) h = absurd h
+plain_unbuilt moment repo (calls.UploadState id) h = absurd h
+plain_unbuilt moment repo (calls.PutManifest reference media body) h = refl
+plain_unbuilt moment repo (calls.GetManifest reference) h = refl
+plain_unbuilt moment repo (calls.HeadManifest reference) h = refl
+plain_unbuilt moment repo (calls.DeleteManifest reference) h = refl
+plain_unbuilt moment repo (calls.Tags n last) h = refl
+plain_unbuilt moment repo (calls.Referrers digest filter) h = refl
 
--- a call of another kind isn't built yet
-pub unbuilt : (moment : ℕ) (repo : RepoState) (call : Call) (reply : Reply) → ((digest : List ℕ) → call ≢ calls.GetBlob digest) → ((digest : List ℕ) → call ≢ calls.HeadBlob digest)
-    → ((mount : Option Mount) (digest : Option (List ℕ)) (body : List ℕ) → call ≢ calls.Post mount digest body) → ((id : Option ℕ) → call ≢ calls.UploadState id)
-    → ((id : Option ℕ) (range : Option Span) (body : List ℕ) → call ≢ calls.Patch id range body) → ((id : Option ℕ) (range : Option Span) (digest body : List ℕ) → call ≢ calls.Finish id range digest body)
-    → reply ≡ not_built → MayAnswer moment repo call reply repo
-unbuilt moment repo call reply g h p s u f is = is_plain moment repo repo call reply (stays repo not_built) (plain_unbuilt moment repo call g h p s u f) is refl
+pub unbuilt : (moment : ℕ) (repo : RepoState) (call : Call) (reply : Reply) → IsUnbuilt call → reply ≡ not_built → MayGive moment repo call reply repo
+unbuilt moment repo call reply h is = is_plain moment repo repo call reply (stays repo not_built) (plain_unbuilt moment repo call h) is refl
 
--- ---- on a table
+-- a call is one that isn't built
+pub as_unbuilt : (call other : Call) → call ≡ other → IsUnbuilt other → IsUnbuilt call
+as_unbuilt call other is h = subst IsUnbuilt (sym is) h
 
--- a call on the repository that a table has
-pub replies_at : (moment : ℕ) (old new : RowState) (name : List ℕ) (call : Call) (reply : Reply) (found after : RepoState) → repo_at old name ≡ found → Becomes old name after new → MayAnswer moment found call reply after
-    → MayReply moment old name call reply new
-replies_at moment old new name call reply found after has becomes h = (after, becomes, subst (λ (r : RepoState). MayAnswer moment r call reply after) (sym has) h)
+-- ---- a repository that isn't fresh
 
--- a call that leaves a fresh repository as it is
-pub replies_fresh : (moment : ℕ) (row : RowState) (name : List ℕ) (call : Call) (reply : Reply) (found after : RepoState) → repo_at row name ≡ fresh → found ≡ fresh → after ≡ fresh → MayAnswer moment found call reply after
-    → MayReply moment row name call reply row
-replies_fresh moment row name call reply found after has is left h =
-    replies_at moment row row name call reply found after (has ∙ sym is) (subst (λ (r : RepoState). Becomes row name r row) (has ∙ sym left) (becomes_itself row name)) h
-
--- memory ran out, and the table is as it was
-pub replies_lacking : (moment : ℕ) (old new : RowState) (name : List ℕ) (call : Call) (reply : Reply) → new ≡ old → reply ≡ no_memory → MayReply moment old name call reply new
-replies_lacking moment old new name call reply same is =
-    (repo_at old name, subst (λ (row : RowState). Becomes old name (repo_at old name) row) (sym same) (becomes_itself old name), lacks moment (repo_at old name) (repo_at old name) call reply is refl)
-
--- a reply fits the request that it answers
-pub reply_fits : (moment : ℕ) (old new : RowState) (name : List ℕ) (call : Call) (reply : Reply) → MayReply moment old name call reply new → call ≢ calls.Base → FitsCall call reply
-reply_fits moment old new name call reply h named = answer_fits moment (repo_at old name) h.0 call reply h.2 named
+-- a tree of no blobs has none
+pub blobs_none : {X : Type 0} (es : List (List ℕ × X)) → map_of es ≡ map.empty → length es ≡ 0
+blobs_none [] h = refl
+blobs_none (e ∷ es) h =
+    let has = get-entries byte_order (e ∷ es) e.0 ∙ ap (λ b. cond b (Some e.1) (lookup (is_at (byte_cmp e.0)) es)) (same_key byte_order e.0) in
+    absurd (cc (sym has ∙ ap (λ m. map.get m e.0) h ∙ get-empty byte_cmp e.0))

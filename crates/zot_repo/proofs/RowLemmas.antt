@@ -1,57 +1,120 @@
--- A tree of repositories, seen as the plain table.
-use Rattle.std.proofs.Common.{◌≡◌, ◌≢◌, ℕ, Bool, true, false, cond, List, Option, Some, unwrap_or, refl, sym, ap, ◌∙◌, subst}
-use Rattle.std.specs.Prelude.{IsSome}
+-- A table of repositories, and the plain row that it stands for.
+use Rattle.std.proofs.Common.{◌≡◌, ◌≢◌, inl, inr, ℕ, Bool, true, false, cond, List, [], ◌∷◌, Option, Some, None, unwrap_or, refl, sym, ap, ◌∙◌, subst}
+use Rattle.std.specs.Prelude.{◌↔◌, IsSome, IsSomeAnd}
+use Rattle.std.specs.Cmp.Lexicographic.{nat_list_cmp_total}
+use Rattle.std.specs.FinMap as map
+use Rattle.std.specs.FinMap.{get-insert}
 use Rattle.std.specs.Ordering.{eq_by_cmp}
 use Rattle.std.specs.BTreeMap.{is_at}
-use Rattle.std.specs.Cmp.{Equal-is}
 use Rattle.std.specs.Map.{KeepsOthers, lookup}
-use Rattle.zot_digest.proofs.ByteMapLemmas.{byte_cmp-IsAntisymmetric, get-map_of}
-use Rattle.zot_digest.specs.ByteMap.{byte_cmp, map_of}
-use Rattle.zot_model.specs.State.{Becomes, RepoState, RowState, fresh, repo_at}
+use Rattle.zot_maps.proofs.Maps.{byte_order, entries-insert, found_at, get_elsewhere, get_here, tied_keys}
+use Rattle.zot_digest.specs.ByteMap.{ByteMap, byte_cmp, map_of}
+use Rattle.zot_history.proofs.Runs.{run_one}
+use Rattle.zot_model.proofs.HistoryLemmas.{same_alike}
+use Rattle.zot_model.specs.declared.call.Call.{Call}
+use Rattle.zot_model.specs.declared.reply.Reply.{Reply}
+use Rattle.zot_model.specs.declared.request.Request.{Request}
+use Rattle.zot_model.specs.declared.row.RowCall.TheVariants.{Ask}
+use Rattle.zot_model.specs.declared.row.RowReply.TheVariants as answers
+use Rattle.zot_model.specs.History.{Enters, Step, entry_of}
+use Rattle.zot_model.specs.Plain.{GoesWithoutFault, MayAnswer}
+use Rattle.zot_model.specs.Refusals.{no_memory}
+use Rattle.zot_repo.proofs.ReplyLemmas.{lacks}
+use Rattle.zot_model.specs.State.{AreSame, Becomes, HaveSameRepos, RepoState, RowState, fresh, repo_at}
+use Rattle.zot_repo.specs.Replies.{MayGive}
+use Rattle.zot_repo.specs.Table.{HasName, KeepsNames, Table, state_of, with_repo}
+
+module _ (table : Table) (name : List ℕ) (repo : RepoState) where
+  has_here : map.get (with_repo table name repo).repos name ≡ Some repo
+  has_here = get_here byte_order table.repos name repo
+
+  pub becomes_with : Becomes (state_of table) name repo (state_of (with_repo table name repo))
+  becomes_with = record {
+    here = ap (λ o. unwrap_or o fresh) has_here;
+    others = λ other differs. ap (λ o. unwrap_or o fresh) (get_elsewhere byte_order table.repos name repo other differs);
+  }
+
+  some_either : (b : Bool) (other : List ℕ) → eq_by_cmp byte_cmp other name ≡ b → HasName table name → IsSome (cond b (Some repo) (map.get table.repos other)) ↔ HasName table other
+  some_either true other e has = (λ h. subst (HasName table) (sym (tied_keys byte_order other name e)) has, λ h. refl)
+  some_either false other e has = (λ h. h, λ h. h)
+
+  -- the names stay where the table had the name
+  pub names_with : HasName table name → KeepsNames table (with_repo table name repo)
+  names_with has same other = subst (λ o. IsSome o ↔ HasName table other) (sym (get-insert nat_list_cmp_total table.repos name repo other)) (some_either (eq_by_cmp byte_cmp other name) other refl has)
+
+  -- or where some repository changed
+  pub names_grown : map.get table.repos name ≡ None → repo ≢ fresh → KeepsNames table (with_repo table name repo)
+  names_grown none differs same other =
+      absurd (differs (ap (λ o. unwrap_or o fresh) (sym has_here) ∙ same name ∙ ap (λ o. unwrap_or o fresh) none))
+
+  -- a call on the repository that the table has there
+  goes_with : (Way : RepoState → RepoState → Type 0) → Way (repo_at (state_of table) name) repo → GoesWithoutFault Way (state_of table) name (state_of (with_repo table name repo))
+  goes_with Way h = record { repo = repo; way = h; becomes = becomes_with; faults = refl }
+
+  answers_at : (moment : ℕ) (call : Call) (reply : Reply) → MayGive moment (repo_at (state_of table) name) call reply repo → MayAnswer moment (state_of table) name call reply (state_of (with_repo table name repo))
+  answers_at moment call reply (inl h) = inl (goes_with _ h)
+  answers_at moment call reply (inr h) = inr (goes_with _ h)
+
+  pub answers_with : (moment : ℕ) (call : Call) (reply : Reply) (found : RepoState) → repo_at (state_of table) name ≡ found → MayGive moment found call reply repo
+      → MayAnswer moment (state_of table) name call reply (state_of (with_repo table name repo))
+  answers_with moment call reply found has h = answers_at moment call reply (subst (λ (r : RepoState). MayGive moment r call reply repo) (sym has) h)
+
+-- the names of a table that stays
+pub names_itself : (table : Table) → KeepsNames table table
+names_itself table same other = (λ h. h, λ h. h)
+
+-- a call that leaves the repository of the name as it is
+stays_as : (Way : RepoState → RepoState → Type 0) (table : Table) (name : List ℕ) → Way (repo_at (state_of table) name) (repo_at (state_of table) name) → GoesWithoutFault Way (state_of table) name (state_of table)
+stays_as Way table name h = record { repo = repo_at (state_of table) name; way = h; becomes = record { here = refl; others = λ other differs. refl }; faults = refl }
+
+pub answers_itself : (moment : ℕ) (table : Table) (name : List ℕ) (call : Call) (reply : Reply) (found after : RepoState) → repo_at (state_of table) name ≡ found → after ≡ found → MayGive moment found call reply after
+    → MayAnswer moment (state_of table) name call reply (state_of table)
+answers_itself moment table name call reply found after has left h =
+    by (subst (λ (r : RepoState). MayGive moment r call reply r) (sym has) (subst (λ (r : RepoState). MayGive moment found call reply r) left h)) where
+      by : MayGive moment (repo_at (state_of table) name) call reply (repo_at (state_of table) name) → MayAnswer moment (state_of table) name call reply (state_of table)
+      by (inl k) = inl (stays_as _ table name k)
+      by (inr k) = inr (stays_as _ table name k)
+
+-- memory ran out, and the table is as it was
+pub answers_lacking : (moment : ℕ) (table : Table) (name : List ℕ) (call : Call) (reply : Reply) → reply ≡ no_memory → MayAnswer moment (state_of table) name call reply (state_of table)
+answers_lacking moment table name call reply is =
+    answers_itself moment table name call reply (repo_at (state_of table) name) (repo_at (state_of table) name) refl refl (lacks moment (repo_at (state_of table) name) (repo_at (state_of table) name) call reply is refl)
+
+-- ---- the tree of a table
 
 -- the table that a tree's entries stand for
-abbrev pub row_of : List (List ℕ × RepoState) → RowState
-row_of es = record { repos = map_of es; faults = 0 }
+abbrev pub table_of : List (List ℕ × RepoState) → Table
+table_of es = record { repos = map_of es }
 
-pub repo_at-row_of : (es : List (List ℕ × RepoState)) (name : List ℕ) → repo_at (row_of es) name ≡ unwrap_or (lookup (is_at (byte_cmp name)) es) fresh
-repo_at-row_of es name = ap (λ o. unwrap_or o fresh) (get-map_of es name)
+-- what the table has under a name is what the tree has there
+pub has_found : (es : List (List ℕ × RepoState)) (table : Table) (name : List ℕ) (found : Option RepoState) → table_of es ≡ table → found ≡ lookup (is_at (byte_cmp name)) es → map.get table.repos name ≡ found
+has_found es table name found is has = found_at byte_order es table.repos name found (ap (λ (t : Table). t.repos) is) has
 
--- the repository of a name is what the tree has there
-pub repo_at-found : (es : List (List ℕ × RepoState)) (row : RowState) (name : List ℕ) (found : Option RepoState) → row_of es ≡ row
-    → found ≡ lookup (is_at (byte_cmp name)) es → repo_at row name ≡ unwrap_or found fresh
-repo_at-found es row name found is has = ap (λ r. repo_at r name) (sym is) ∙ repo_at-row_of es name ∙ ap (λ o. unwrap_or o fresh) (sym has)
+pub repo_found : (es : List (List ℕ × RepoState)) (table : Table) (name : List ℕ) (found : RepoState) → table_of es ≡ table → Some found ≡ lookup (is_at (byte_cmp name)) es → repo_at (state_of table) name ≡ found
+repo_found es table name found is has = ap (λ o. unwrap_or o fresh) (has_found es table name (Some found) is has)
 
--- a key that differs isn't found at the other
-apart : (b : Bool) (k q : List ℕ) → is_at (byte_cmp k) q ≡ b → q ≢ k → b ≡ false
-apart true k q h other = absurd (other (sym (byte_cmp-IsAntisymmetric k q ((Equal-is (byte_cmp k q)).0 h))))
-apart false k q h other = refl
+pub name_found : (es : List (List ℕ × RepoState)) (table : Table) (name : List ℕ) (found : RepoState) → table_of es ≡ table → Some found ≡ lookup (is_at (byte_cmp name)) es → HasName table name
+name_found es table name found is has = subst (λ o. IsSome o) (sym (has_found es table name (Some found) is has)) refl
 
--- a tree with a repository written under a name stands for the table that has it there
-pub becomes_from_write : (es fs : List (List ℕ × RepoState)) (old : RowState) (name : List ℕ) (repo : RepoState) → row_of es ≡ old
-    → lookup (is_at (byte_cmp name)) fs ≡ Some repo
-    → ((q : List ℕ) → is_at (byte_cmp name) q ≡ false → lookup (is_at (byte_cmp q)) fs ≡ lookup (is_at (byte_cmp q)) es)
-    → Becomes old name repo (row_of fs)
-becomes_from_write es fs old name repo is here others = record {
-  here = repo_at-row_of fs name ∙ ap (λ o. unwrap_or o fresh) here;
-  others = λ other differs.
-      repo_at-row_of fs other
-      ∙ ap (λ o. unwrap_or o fresh) (others other (apart (is_at (byte_cmp name) other) name other refl differs))
-      ∙ sym (repo_at-row_of es other) ∙ ap (λ row. repo_at row other) is;
-  faults = ap (λ (row : RowState). row.faults) is;
-}
-
--- a table becomes itself
-pub becomes_itself : (row : RowState) (name : List ℕ) → Becomes row name (repo_at row name) row
-becomes_itself row name = record { here = refl; others = λ other differs. refl; faults = refl }
-
--- a repository written at a name of a tree
-pub becomes_from_writes : (es fs : List (List ℕ × RepoState)) (old : RowState) (name : List ℕ) (found written repo : RepoState) → row_of es ≡ old
-    → Some found ≡ lookup (is_at (byte_cmp name)) es
+-- a tree with a repository written under a name
+pub table_written : (es fs : List (List ℕ × RepoState)) (table : Table) (name : List ℕ) (found written : RepoState) → table_of es ≡ table → Some found ≡ lookup (is_at (byte_cmp name)) es
     → (IsSome (lookup (is_at (byte_cmp name)) es) → ((q : List ℕ) → lookup (is_at (byte_cmp q)) fs ≡ cond (is_at (byte_cmp name) q) (Some written) (lookup (is_at (byte_cmp q)) es))
     × (lookup (is_at (byte_cmp name)) fs ≡ Some written)
     × ((q : List ℕ) → is_at (byte_cmp name) q ≡ false → lookup (is_at (byte_cmp q)) fs ≡ lookup (is_at (byte_cmp q)) es)
     × KeepsOthers (eq_by_cmp byte_cmp) (is_at (byte_cmp name)) es fs)
-    → written ≡ repo → Becomes old name repo (row_of fs)
-becomes_from_writes es fs old name found written repo is has writes same =
+    → table_of fs ≡ with_repo table name written
+table_written es fs table name found written is has writes =
     let all = writes (subst (λ o. IsSome o) has refl) in
-    subst (λ r. Becomes old name r (row_of fs)) same (becomes_from_write es fs old name written is all.1 all.2)
+    ap (λ (m : ByteMap RepoState). record { repos = m }) (entries-insert byte_order es fs name written all.0) ∙ ap (λ (t : Table). with_repo t name written) is
+
+-- ---- entries
+
+-- a request that was answered is an entry
+pub enters : (moment : ℕ) (old new : RowState) (request : Request) (name : List ℕ) (reply : Reply) → request.name ≡ Some name → MayAnswer moment old name request.call reply new
+    → Enters old (Ask request) moment (answers.Reply reply) new
+enters moment old new request name reply is h = record {
+  entries = entry_of request reply moment new.faults ∷ [];
+  stand = (new.faults, refl);
+  run = run_one AreSame Step same_alike old new (entry_of request reply moment new.faults)
+      (record { happens = subst (λ n. IsSomeAnd n (λ k. MayAnswer moment old k request.call reply new)) (sym is) h; faults = refl });
+}

@@ -1,4 +1,4 @@
--- What the parts of a table's step say.
+-- What the parts of a repository's answer say.
 use Rattle.std.specs.Prelude.{◌≡◌, ℕ, List, length, Option, Some, None, ◌⊎◌}
 use Rattle.std.specs.FinMap as map
 use Rattle.zot_digest.specs.Digest.{IsSound}
@@ -6,15 +6,14 @@ use Rattle.zot_model.specs.declared.call.Call.{Call}
 use Rattle.zot_model.specs.declared.code.Code.TheVariants.{BlobUploadUnknown, DigestInvalid}
 use Rattle.zot_model.specs.declared.reply.Reply.{Reply}
 use Rattle.zot_model.specs.declared.reply.Reply.TheVariants.{Blob, BlobMade, Session}
-use Rattle.zot_model.specs.declared.stored.Stored.{Stored}
-use Rattle.zot_model.specs.Plain.{MayAnswer, found_or, with_blob, with_sessions}
+use Rattle.zot_model.specs.Plain.{IsPlain, LacksMemory, found_or, with_blob, with_sessions}
 use Rattle.zot_model.specs.Refusals.{no_memory, refusal}
-use Rattle.zot_model.specs.State.{Becomes, RepoState, RowState, repo_at}
+use Rattle.zot_model.specs.State.{RepoState, Stored}
 use Rattle.zot_model.specs.Uploads.{OpenUpload, UploadTable, without}
 
--- the call may be answered so on the repository of that name, and leads from the old table to the new one
-abbrev pub MayReply : ℕ → RowState → List ℕ → Call → Reply → RowState → Type 0
-MayReply moment old name call reply new = (repo : RepoState) × Becomes old name repo new × MayAnswer moment (repo_at old name) call reply repo
+-- the call may be answered so on a repository, without a storage fault
+abbrev pub MayGive : ℕ → RepoState → Call → Reply → RepoState → Type 0
+MayGive moment old call reply new = IsPlain moment old call reply new ⊎ LacksMemory moment old call reply new
 
 -- the reply has the blob, or says that there is none, or that memory ran out
 abbrev pub GivesBlob : Option Stored → List ℕ → Reply → Type 0

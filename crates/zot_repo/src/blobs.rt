@@ -1,16 +1,17 @@
 //! What is answered to requests on blobs.
 ghost use Rattle.std.specs.Prelude.{◌≡◌, OnOk, OnErr, length, Option, option_copied};
 ghost use Rattle.std.specs.FinMap as map;
-ghost use Rattle.zot_model.specs.Plain.{MayAnswer, found_or, with_blob};
+ghost use Rattle.zot_model.specs.Plain.{found_or, with_blob};
 ghost use Rattle.zot_model.specs.declared.call.Call.TheVariants as calls;
 ghost use Rattle.zot_model.specs.declared.mount.Mount.{Mount};
 ghost use Rattle.zot_model.specs.declared.reply.Reply.TheVariants.{BlobHead};
-ghost use Rattle.zot_repo.specs.Replies.{GivesBlob, TakesBlob};
+ghost use Rattle.zot_repo.specs.Replies.{GivesBlob, MayGive, TakesBlob};
 
 use crate::repository::Repository;
+use crate::stored::StoredBlob;
 use std::alloc::{AllocError, Global};
 use zot_digest::{Bytes, Digest, digest_of};
-use zot_model::{Reply, Stored};
+use zot_model::Reply;
 
 impl Repository {
     /// The reply to a GET of a blob: a copy of its bytes.
@@ -20,7 +21,7 @@ impl Repository {
         let Some(stored) = self.blob(digest) else {
             return Reply::blob_unknown();
         };
-        match stored.bytes.copy(alloc) {
+        match stored.bytes().copy(alloc) {
             Ok(bytes) => Reply::Blob {
                 digest: *digest,
                 bytes,
@@ -36,7 +37,7 @@ impl Repository {
         match self.blob(digest) {
             Some(stored) => Reply::BlobHead {
                 digest: *digest,
-                size: stored.bytes.as_slice().len() as u64,
+                size: stored.bytes().as_slice().len() as u64,
             },
             None => Reply::blob_unknown(),
         }
@@ -50,7 +51,7 @@ impl Repository {
         body: &Bytes,
         moment: u64,
     ) -> Reply
-        ensures { (mount : Option Mount) → MayAnswer moment self.old (calls.Post mount digest.now body.now) result self.new }
+        ensures { (mount : Option Mount) → MayGive moment self.old (calls.Post mount digest.now body.now) result self.new }
     {
         match digest {
             Some(digest) => self.post_blob(alloc, digest, body, moment),
@@ -72,7 +73,7 @@ impl Repository {
     }
 
     // The blob of a digest.
-    fn blob(&self, digest: &Digest) -> Option<&Stored>
+    fn blob(&self, digest: &Digest) -> Option<&StoredBlob>
         ensures { option_copied result ≡ map.get self.now.blobs digest.now }
     {
         self.stored.get(digest)
@@ -98,11 +99,7 @@ impl Repository {
         ensures ok { OnOk result (self.new ≡ with_blob moment self.old digest bytes) }
         ensures err { OnErr result (self.new ≡ self.old) }
     {
-        let stored = Stored {
-            bytes,
-            arrived: moment,
-        };
-        self.stored.insert(digest, stored)?;
+        self.stored.insert(digest, StoredBlob::new(bytes, moment))?;
         self.known = true;
         Ok(())
     }

@@ -4,8 +4,7 @@
 mod blobs;
 mod repository;
 mod shard;
-#[cfg(test)]
-mod tests;
+mod stored;
 mod uploads;
 
 pub use crate::shard::RepoShard;

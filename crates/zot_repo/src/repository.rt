@@ -1,34 +1,33 @@
 //! One repository.
-ghost use Rattle.std.specs.Prelude.{◌≡◌, false};
-ghost use Rattle.zot_model.specs.Plain.{MayAnswer};
+ghost use Rattle.std.specs.Prelude.{◌≡◌, ◌≢◌, false, true};
 ghost use Rattle.zot_model.specs.State.{fresh};
+ghost use Rattle.zot_repo.specs.Replies.{MayGive};
 
+use crate::stored::StoredBlob;
 use std::alloc::Global;
 use std::collections::BTreeMap;
 use std::marker::Model;
 use zot_digest::Digest;
-use zot_model::{Call, Reply, Stored};
+use zot_model::{Call, Reply};
 use zot_uploads::Uploads;
 
-/// A repository: whether it is known, its blobs in a tree by their digests, and its upload sessions. One that isn't known is a fresh one. Contracts see the plain repository.
+/// A repository: whether it is known, its blobs in a tree by their digests, and its upload sessions. Contracts see the plain repository.
 #[derive(Drop)]
 pub struct Repository {
     pub known: bool,
-    pub stored: BTreeMap<Digest, Stored>,
+    pub stored: BTreeMap<Digest, StoredBlob>,
     pub sessions: Uploads,
 }
 
 impl Model for Repository {
     ghost use Rattle.zot_model.specs.State.{RepoState, repo_code};
-    ghost use Rattle.zot_repo.specs.Repository.{IsKnownOrFresh, repo_of};
+    ghost use Rattle.zot_repo.specs.Repository.{repo_of};
 
     ghost Value = { RepoState };
 
     ghost coded = { repo_code };
 
     ghost view = { λ r. repo_of r.known r.stored.entries r.sessions };
-
-    ghost invariant = { λ r. IsKnownOrFresh (repo_of r.known r.stored.entries r.sessions) };
 }
 
 impl Repository {
@@ -43,17 +42,17 @@ impl Repository {
         }
     }
 
-    /// Whether it is known. One that isn't is a fresh one.
-    pub fn is_known(&self) -> bool
-        ensures known { result ≡ self.now.known }
-        ensures fresh { result ≡ false → self.now ≡ fresh }
+    /// Whether it is a fresh one: it isn't known and holds nothing.
+    pub fn is_fresh(&self) -> bool
+        ensures fresh { result ≡ true → self.now ≡ fresh }
+        ensures other { result ≡ false → self.now ≢ fresh }
     {
-        self.known
+        !self.known && self.stored.is_empty() && self.sessions.is_fresh()
     }
 
-    /// Answers a call at a moment, as the plain registry does by the first case that fits, or for want of memory, which changes nothing.
+    /// Answers a call at a moment, as the plain registry does by the first case that fits, or for want of memory, after which the repository is as it was.
     pub fn answer(&mut self, alloc: Global, call: &Call, moment: u64) -> Reply
-        ensures { MayAnswer moment self.old call.now result self.new }
+        ensures { MayGive moment self.old call.now result self.new }
     {
         match call {
             Call::GetBlob(digest) => self.get_blob(alloc, digest),
@@ -71,7 +70,14 @@ impl Repository {
                 digest,
                 body,
             } => self.finish(alloc, *id, *range, digest, body, moment),
-            _ => Reply::not_built(),
+            Call::Base
+            | Call::DeleteBlob(_)
+            | Call::PutManifest { .. }
+            | Call::GetManifest(_)
+            | Call::HeadManifest(_)
+            | Call::DeleteManifest(_)
+            | Call::Tags { .. }
+            | Call::Referrers { .. } => Reply::not_built(),
         }
     }
 }

@@ -1,11 +1,12 @@
 //! A table of repositories.
-ghost use Rattle.std.specs.Prelude.{◌≡◌, OnOk, OnErr};
-ghost use Rattle.zot_model.specs.State.{Becomes, empty_row, fresh, repo_at};
+ghost use Rattle.std.specs.Prelude.{◌≡◌, None, OnOk, OnErr};
+ghost use Rattle.std.specs.FinMap as map;
 ghost use Rattle.zot_model.specs.Fits.{IsFitting};
-ghost use Rattle.zot_model.specs.History.{IsNamed, Step};
+ghost use Rattle.zot_model.specs.History.{Enters, IsNamed};
+ghost use Rattle.zot_model.specs.Plain.{MayAnswer};
 ghost use Rattle.zot_model.specs.declared.row.RowCall.TheVariants.{Ask};
 ghost use Rattle.zot_model.specs.declared.row.RowReply.TheVariants as answers;
-ghost use Rattle.zot_repo.specs.Replies.{MayReply};
+ghost use Rattle.zot_repo.specs.Table.{KeepsNames, empty_table, state_of, with_repo};
 
 use crate::repository::Repository;
 use std::alloc::{AllocError, Global};
@@ -14,7 +15,7 @@ use std::marker::Model;
 use zot_model::{Call, Reply, Request, RowCall, RowReply};
 use zot_names::RepoName;
 
-/// A table of repositories in memory. Contracts see the state of the plain registry.
+/// A table of repositories in memory: those that are known or hold something. Contracts see what it keeps, and the plain row that this stands for.
 #[derive(Drop)]
 pub struct RepoShard {
     repos: BTreeMap<RepoName, Repository>,
@@ -22,30 +23,31 @@ pub struct RepoShard {
 
 impl Model for RepoShard {
     ghost use Rattle.zot_digest.specs.ByteMap.{map_of};
-    ghost use Rattle.zot_model.specs.State.{RowState, row_code};
+    ghost use Rattle.zot_repo.specs.Table.{Table, table_code};
 
-    ghost Value = { RowState };
+    ghost Value = { Table };
 
-    ghost coded = { row_code };
+    ghost coded = { table_code };
 
-    ghost view = { λ s. record { repos = map_of s.repos.entries; faults = 0 } };
+    ghost view = { λ s. record { repos = map_of s.repos.entries } };
 }
 
 impl RepoShard {
     /// The table with no repository. Takes no memory.
     pub fn new(alloc: Global) -> Self
-        ensures { result ≡ empty_row }
+        ensures { result ≡ empty_table }
     {
         RepoShard {
             repos: BTreeMap::new(alloc),
         }
     }
 
-    /// Answers a call at a moment, in seconds, as the plain registry does by the first case that fits, or for want of memory, which changes nothing. Other repositories stay.
+    /// Answers a call at a moment, in seconds, as the plain registry does by the first case that fits, or for want of memory. Other repositories stay, and a call that changes no repository leaves the table's names.
     pub fn step(&mut self, alloc: Global, call: &RowCall, moment: u64) -> RowReply
         requires { IsNamed call.now }
-        ensures step { Step self.old (record { call = call.now; moment = moment; answer = result; faults = self.new.faults }) self.new }
+        ensures step { Enters (state_of self.old) call.now moment result (state_of self.new) }
         ensures fits { IsFitting call.now result }
+        ensures names { KeepsNames self.old self.new }
     {
         RowReply::Reply(self.ask(alloc, call.request(), moment))
     }
@@ -53,8 +55,9 @@ impl RepoShard {
     /// The reply to a request on a repository that was lent, which is `step` on the call that asks it.
     pub fn ask(&mut self, alloc: Global, request: &Request, moment: u64) -> Reply
         requires { IsNamed (Ask request.now) }
-        ensures step { Step self.old (record { call = Ask request.now; moment = moment; answer = answers.Reply result; faults = self.new.faults }) self.new }
+        ensures step { Enters (state_of self.old) (Ask request.now) moment (answers.Reply result) (state_of self.new) }
         ensures fits { IsFitting (Ask request.now) (answers.Reply result) }
+        ensures names { KeepsNames self.old self.new }
     {
         let Some(name) = &request.name else {
             unreachable!()
@@ -64,7 +67,8 @@ impl RepoShard {
 
     // The reply to a call on the repository of this name.
     fn answer(&mut self, alloc: Global, name: &RepoName, call: &Call, moment: u64) -> Reply
-        ensures { MayReply moment self.old name.now call.now result self.new }
+        ensures answers { MayAnswer moment (state_of self.old) name.now call.now result (state_of self.new) }
+        ensures names { KeepsNames self.old self.new }
     {
         match self.repos.get_mut(name) {
             Some(repository) => repository.answer(alloc, call, moment),
@@ -72,14 +76,15 @@ impl RepoShard {
         }
     }
 
-    // The reply to a call on a repository that the table doesn't have, and has then where the call makes it known.
+    // The reply to a call on a repository that the table doesn't have, and has then where it isn't a fresh one any more.
     fn answer_first(&mut self, alloc: Global, name: &RepoName, call: &Call, moment: u64) -> Reply
-        requires { repo_at self.now name.now ≡ fresh }
-        ensures { MayReply moment self.old name.now call.now result self.new }
+        requires { map.get self.now.repos name.now ≡ None }
+        ensures answers { MayAnswer moment (state_of self.old) name.now call.now result (state_of self.new) }
+        ensures names { KeepsNames self.old self.new }
     {
         let mut repository = Repository::new(alloc);
         let reply = repository.answer(alloc, call, moment);
-        if !repository.is_known() {
+        if repository.is_fresh() {
             return reply;
         }
         match self.keep(alloc, name, repository) {
@@ -88,14 +93,14 @@ impl RepoShard {
         }
     }
 
-    // Keeps a repository under a name. After an `Err` the repositories are as they were.
+    // Keeps a repository under a name. After an `Err` the table is as it was.
     fn keep(
         &mut self,
         alloc: Global,
         name: &RepoName,
         repository: Repository,
     ) -> Result<(), AllocError>
-        ensures ok { OnOk result (Becomes self.old name.now repository self.new) }
+        ensures ok { OnOk result (self.new ≡ with_repo self.old name.now repository) }
         ensures err { OnErr result (self.new ≡ self.old) }
     {
         self.repos.insert(name.copy(alloc)?, repository)?;

@@ -1,11 +1,10 @@
 //! What is answered to requests on uploads.
 ghost use Rattle.std.specs.Prelude.{◌≡◌, ℕ, List, Option, None, Some};
 ghost use Rattle.std.specs.FinMap as map;
-ghost use Rattle.zot_model.specs.Plain.{MayAnswer};
 ghost use Rattle.zot_model.specs.declared.call.Call.TheVariants as calls;
 ghost use Rattle.zot_model.specs.declared.mount.Mount.{Mount};
 ghost use Rattle.zot_repo.specs.Refusals.{new_refusal, upload_refusal};
-ghost use Rattle.zot_repo.specs.Replies.{EndsWith, upload_told};
+ghost use Rattle.zot_repo.specs.Replies.{EndsWith, MayGive, upload_told};
 
 use crate::repository::Repository;
 use std::alloc::Global;
@@ -17,7 +16,7 @@ use zot_uploads::UploadError;
 impl Repository {
     /// The reply to a POST of a new upload, which begins at the moment and makes the repository known; its body is ignored.
     pub fn begin(&mut self, alloc: Global, moment: u64) -> Reply
-        ensures { (mount : Option Mount) (body : List ℕ) → MayAnswer moment self.old (calls.Post mount None body) result self.new }
+        ensures { (mount : Option Mount) (body : List ℕ) → MayGive moment self.old (calls.Post mount None body) result self.new }
     {
         match self.sessions.begin(alloc, moment) {
             Ok(id) => {
@@ -51,7 +50,7 @@ impl Repository {
 
     /// The reply to a PATCH of an upload, whose body is put behind the bytes that are there.
     pub fn patch(&mut self, id: Option<UploadId>, range: Option<Span>, body: &Bytes) -> Reply
-        ensures { (moment : ℕ) → MayAnswer moment self.old (calls.Patch id range body.now) result self.new }
+        ensures { (moment : ℕ) → MayGive moment self.old (calls.Patch id range body.now) result self.new }
     {
         let Some(id) = id else {
             return Reply::upload_unknown();
@@ -76,7 +75,7 @@ impl Repository {
         body: &Bytes,
         moment: u64,
     ) -> Reply
-        ensures { MayAnswer moment self.old (calls.Finish id range digest.now body.now) result self.new }
+        ensures { MayGive moment self.old (calls.Finish id range digest.now body.now) result self.new }
     {
         let Some(id) = id else {
             return Reply::upload_unknown();

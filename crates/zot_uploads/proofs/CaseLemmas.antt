@@ -1,14 +1,13 @@
 -- Each call on an upload has one answer, and leaves other uploads as they were.
 use Rattle.std.proofs.Common.{◌≡◌, ◌≢◌, ◌⊎◌, inl, inr, ℕ, ◌+◌, ◌≤◌, ◌<◌, nat_le, Bool, true, false, ◌||◌, cond, List, [], ◌++◌, length, Option, Some, None, refl, sym, ap, ◌∙◌, arith}
-use Rattle.std.specs.Cmp.{eq_by_cmp_equiv, nat_cmp_total}
+use Rattle.std.specs.Cmp.{nat_cmp_total}
 use Rattle.std.specs.FinMap as map
-use Rattle.std.specs.FinMap.{get-insert, get-remove, len-insert}
-use Rattle.std.specs.Ordering.{eq_by_cmp, nat_cmp}
+use Rattle.std.specs.FinMap.{len-insert}
 use Rattle.std.proofs.lemmas.Bool.Decides.{nat_tests}
 use Rattle.std.proofs.lemmas.Slice.Eq.{bytes_eq-Decides}
 use Rattle.zot_digest.specs.Digest.{IsSound, is_sound}
 use Rattle.zot_model.specs.declared.span.Span.{Span}
-use Rattle.zot_uploads.proofs.NumberMapLemmas.{tied}
+use Rattle.zot_maps.proofs.Maps.{get_elsewhere, number_order, removed_elsewhere, removed_here}
 use Rattle.zot_uploads.specs.Cases.{GoesOn, HasRoom, KeepsLimit, Refuses, RefusesWhole}
 use Rattle.zot_model.specs.Pieces.{goes_on, keeps_limit}
 use Rattle.zot_model.specs.Uploads.{NumberMap, OpenUpload, UploadTable, last_id, longer, open_limit, put_behind, with_new, with_piece, without}
@@ -148,21 +147,13 @@ whole_answered_once (Some upload) range piece digest error other h k =
     let s = sound_at digest (upload.bytes ++ piece) (is_sound digest (upload.bytes ++ piece)) refl in
     is_whole upload range piece digest d.0 d.1 g l s error h ∙ sym (is_whole upload range piece digest d.0 d.1 g l s other k)
 
-apart : (b : Bool) (q k : ℕ) → eq_by_cmp nat_cmp q k ≡ b → q ≢ k → b ≡ false
-apart true q k e other = absurd (other (tied q k e))
-apart false q k e other = refl
-
-set_beside : (uploads : NumberMap OpenUpload) (id other : ℕ) (upload : OpenUpload) → other ≢ id → map.get (map.insert uploads id upload) other ≡ map.get uploads other
-set_beside uploads id other upload differs =
-    get-insert nat_cmp_total uploads id upload other ∙ ap (λ b. cond b (Some upload) (map.get uploads other)) (apart (eq_by_cmp nat_cmp other id) other id refl differs)
-
 -- a new upload leaves the others
 pub begun_beside : (table : UploadTable) (moment other : ℕ) → other ≢ table.opened + 1 → map.get (with_new moment table).uploads other ≡ map.get table.uploads other
-begun_beside table moment other differs = set_beside table.uploads (table.opened + 1) other _ differs
+begun_beside table moment other differs = get_elsewhere number_order table.uploads (table.opened + 1) _ other differs
 
 put_beside : (uploads : NumberMap OpenUpload) (id other : ℕ) (piece : List ℕ) (found : Option OpenUpload) → other ≢ id → map.get (put_behind uploads id piece found) other ≡ map.get uploads other
 put_beside uploads id other piece None differs = refl
-put_beside uploads id other piece (Some upload) differs = set_beside uploads id other (longer upload piece) differs
+put_beside uploads id other piece (Some upload) differs = get_elsewhere number_order uploads id (longer upload piece) other differs
 
 -- a piece leaves the other uploads
 pub grown_beside : (table : UploadTable) (id other : ℕ) (piece : List ℕ) → other ≢ id → map.get (with_piece table id piece).uploads other ≡ map.get table.uploads other
@@ -170,12 +161,11 @@ grown_beside table id other piece differs = put_beside table.uploads id other pi
 
 -- an upload that ends leaves the others
 pub ended_beside : (table : UploadTable) (id other : ℕ) → other ≢ id → map.get (without table id).uploads other ≡ map.get table.uploads other
-ended_beside table id other differs =
-    get-remove nat_cmp_total table.uploads id other ∙ ap (λ b. cond b None (map.get table.uploads other)) (apart (eq_by_cmp nat_cmp other id) other id refl differs)
+ended_beside table id other differs = removed_elsewhere number_order table.uploads id other differs
 
 -- and is open no more
 pub ended_itself : (table : UploadTable) (id : ℕ) → map.get (without table id).uploads id ≡ None
-ended_itself table id = get-remove nat_cmp_total table.uploads id id ∙ ap (λ b. cond b None (map.get table.uploads id)) ((eq_by_cmp_equiv nat_cmp_total).refl id)
+ended_itself table id = removed_here number_order table.uploads id
 
 one_more : (b : Bool) (n limit : ℕ) → n < limit → cond b n (n + 1) ≤ limit
 one_more true n limit h = omega arith

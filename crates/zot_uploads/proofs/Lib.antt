@@ -1,3 +1,2 @@
-pub mod NumberMapLemmas
 pub mod TableLemmas
 pub mod CaseLemmas

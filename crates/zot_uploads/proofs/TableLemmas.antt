@@ -3,13 +3,15 @@ use Rattle.std.proofs.Common.{◌≡◌, ℕ, ◌≤◌, Bool, true, false, not,
 use Rattle.std.specs.Prelude.{Result, Ok, Err, OnOk, OnErr}
 use Rattle.std.specs.Cmp.{nat_cmp_total}
 use Rattle.std.specs.FinMap as map
-use Rattle.std.specs.FinMap.{get-empty, get-insert, get-remove}
+use Rattle.std.specs.FinMap.{empty_of_len, get-empty, get-insert, get-remove, len-empty}
+use Rattle.std.proofs.lemmas.Bool.{eq-eqb, eqb-true}
+use Rattle.std.specs.Prelude.{◌==◌, ◌≢◌}
 use Rattle.std.specs.Ordering.{eq_by_cmp, nat_cmp}
 use Rattle.std.proofs.lemmas.Map.Entries.{option_filter}
 use Rattle.std.specs.BTreeMap.{is_at}
 use Rattle.std.specs.Map.{KeepsOthers, lookup}
-use Rattle.zot_uploads.proofs.NumberMapLemmas.{found_at, insert-same, numbered-insert, tied}
-use Rattle.zot_model.specs.Uploads.{NumberMap, OpenUpload, WereGiven, if_young, is_aged, longer, numbered, put_behind}
+use Rattle.zot_maps.proofs.Maps.{entries-insert, found_at, insert-same, number_order, tied_keys}
+use Rattle.zot_model.specs.Uploads.{NumberMap, OpenUpload, UploadTable, WereGiven, no_uploads, if_young, is_aged, longer, numbered, put_behind}
 
 kept_young : (b : Bool) (upload : OpenUpload) → cond (not b) (Some upload) None ≡ (if b then None else Some upload)
 kept_young true upload = refl
@@ -29,7 +31,7 @@ pub given-empty : (uploads : NumberMap OpenUpload) (n : ℕ) → uploads ≡ map
 given-empty uploads n is = λ id has. absurd (is_none (map.get uploads id) (ap (λ m. map.get m id) is ∙ get-empty nat_cmp id) has)
 
 placed : (b : Bool) (q k m n : ℕ) (upload : OpenUpload) (found : Option OpenUpload) → eq_by_cmp nat_cmp q k ≡ b → IsSome (cond b (Some upload) found) → (IsSome found → q ≤ m) → k ≤ n → m ≤ n → q ≤ n
-placed true q k m n upload found e has given at more = let same = tied q k e in omega arith
+placed true q k m n upload found e has given at more = let same = tied_keys number_order q k e in omega arith
 placed false q k m n upload found e has given at more = let least = given has in omega arith
 
 -- and after an upload was set under an id that was given
@@ -70,7 +72,7 @@ written_at : (es fs : List (ℕ × OpenUpload)) (uploads : NumberMap OpenUpload)
     → Some upload ≡ lookup (is_at (nat_cmp id)) es → Through es id written fs → numbered fs ≡ map.insert uploads id written
 written_at es fs uploads id upload written is has through =
     let there = subst (λ o. IsSome o) has refl in
-    numbered-insert es fs id written (through there).0 ∙ ap (λ (m : NumberMap OpenUpload). map.insert m id written) is
+    entries-insert number_order es fs id written (through there).0 ∙ ap (λ (m : NumberMap OpenUpload). map.insert m id written) is
 
 -- a piece was put behind the bytes of an upload that is open
 pub put : {T E : Type 0} (result : Result T E) (es fs : List (ℕ × OpenUpload)) (uploads : NumberMap OpenUpload) (id : ℕ) (upload written : OpenUpload) (piece : List ℕ) → numbered es ≡ uploads
@@ -78,7 +80,7 @@ pub put : {T E : Type 0} (result : Result T E) (es fs : List (ℕ × OpenUpload)
     → OnOk result (numbered fs ≡ put_behind uploads id piece (map.get uploads id))
 put (Ok x) es fs uploads id upload written piece is has through ok =
     written_at es fs uploads id upload written is has through ∙ ap (λ (w : OpenUpload). map.insert uploads id w) ok
-    ∙ ap (put_behind uploads id piece) (sym (found_at es uploads id (Some upload) is has))
+    ∙ ap (put_behind uploads id piece) (sym (found_at number_order es uploads id (Some upload) is has))
 put (Err e) es fs uploads id upload written piece is has through ok = tt
 
 -- none was
@@ -87,4 +89,18 @@ pub not_put : {T E : Type 0} (result : Result T E) (es fs : List (ℕ × OpenUpl
 not_put (Ok x) es fs uploads id upload written is has through err = tt
 not_put (Err e) es fs uploads id upload written is has through err =
     written_at es fs uploads id upload written is has through ∙ ap (λ (w : OpenUpload). map.insert uploads id w) err
-    ∙ insert-same uploads id upload (found_at es uploads id (Some upload) is has)
+    ∙ insert-same number_order uploads id upload (found_at number_order es uploads id (Some upload) is has)
+
+-- a table in which nothing was opened and nothing is open
+pub is_no_uploads : (uploads : NumberMap OpenUpload) (opened n : ℕ) (table : UploadTable) → record { uploads = uploads; opened = opened } ≡ table → opened ≡ 0 → n ≡ map.len uploads → (n == 0) ≡ true
+    → table ≡ no_uploads
+is_no_uploads uploads opened n table is none len h =
+    let empty = empty_of_len uploads (sym len ∙ eqb-true n 0 h) in
+    sym is ∙ ap (λ (u : NumberMap OpenUpload). record { uploads = u; opened = opened }) empty ∙ ap (λ (k : ℕ). record { uploads = map.empty; opened = k }) none
+
+-- and one in which something is
+pub isnt_no_uploads : (uploads : NumberMap OpenUpload) (opened n : ℕ) (table : UploadTable) → record { uploads = uploads; opened = opened } ≡ table → n ≡ map.len uploads → (n == 0) ≡ false
+    → table ≢ no_uploads
+isnt_no_uploads uploads opened n table is len h same =
+    let none = len ∙ ap (λ (t : UploadTable). map.len t.uploads) (is ∙ same) ∙ len-empty nat_cmp OpenUpload in
+    cc (h, eq-eqb n 0 none)

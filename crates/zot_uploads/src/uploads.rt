@@ -1,5 +1,5 @@
 //! The upload sessions of one repository.
-ghost use Rattle.std.specs.Prelude.{◌≡◌, ◌+◌, ◌++◌, length, None, IfOk, IfErr, OnOk, OnErr, option_map};
+ghost use Rattle.std.specs.Prelude.{◌≡◌, ◌≢◌, true, false, ◌+◌, ◌++◌, length, None, IfOk, IfErr, OnOk, OnErr, option_map};
 ghost use Rattle.std.specs.FinMap as map;
 ghost use Rattle.zot_uploads.specs.Cases.{HasRoom, IsTaken, IsWhole, Refuses, RefusesNew, RefusesWhole};
 ghost use Rattle.zot_model.specs.Uploads.{Expires, bytes_of, no_uploads, with_new, with_piece, without};
@@ -41,6 +41,14 @@ impl Uploads {
             uploads: UploadMap::new(alloc),
             opened: 0,
         }
+    }
+
+    /// Whether it is the table in which nothing was opened yet.
+    pub fn is_fresh(&self) -> bool
+        ensures fresh { result ≡ true → self.now ≡ no_uploads }
+        ensures other { result ≡ false → self.now ≢ no_uploads }
+    {
+        self.opened == 0 && self.uploads.len() == 0
     }
 
     /// Opens an upload with no bytes at the moment, in seconds. Its id is the number of uploads opened, this one among them. `Full` comes exactly where 1,000 are open or the last id was given, `NoMemory` only where memory runs out. After an `Err` the table is as it was.

@@ -1,5 +1,5 @@
-use Rattle.std.proofs.Common.{refl, sym}
-use Rattle.zot_repo.proofs.ReplyLemmas.{at_call, get_answers, head_answers, state_answers, unbuilt}
+use Rattle.std.proofs.Common.{inl, inr, refl, sym}
+use Rattle.zot_repo.proofs.ReplyLemmas.{at_call, get_answers, as_unbuilt, head_answers, state_answers, unbuilt}
 use Rattle.zot_repo.proofs.repository.Repository.answer.Goals as goal
 
 pub returns-in-GetBlob : goal.returns-in-GetBlob
@@ -17,7 +17,17 @@ returns-in-UploadState c =
     at_call c.args.moment c.args.self.now c.args.self.now c.args.self.now c.args.call.now _ c.upload_state.result refl (sym c.in-UploadState.is)
     (state_answers c.args.moment c.args.self.now c.in-UploadState.id c.upload_state.result c.upload_state.ensures)
 
-pub returns-in_default : goal.returns-in_default
-returns-in_default c =
-    unbuilt c.args.moment c.args.self.now c.args.call.now c.not_built.result c.in_default.not-GetBlob c.in_default.not-HeadBlob (λ mount digest body. c.in_default.not-Post mount digest body)
-    c.in_default.not-UploadState (λ id range body. c.in_default.not-Patch id range body) (λ id range digest body. c.in_default.not-Finish id range digest body) c.not_built.ensures
+pub returns-in-Base : goal.returns-in-Base
+returns-in-Base c =
+    unbuilt c.args.moment c.args.self.now c.args.call.now c.not_built.result
+    (elim c.in-Base.is [
+      | inl h ↦ as_unbuilt c.args.call.now _ h tt
+      | inr (inl h) ↦ as_unbuilt c.args.call.now _ h.1 tt
+      | inr (inr (inl h)) ↦ as_unbuilt c.args.call.now _ h.3 tt
+      | inr (inr (inr (inl h))) ↦ as_unbuilt c.args.call.now _ h.1 tt
+      | inr (inr (inr (inr (inl h)))) ↦ as_unbuilt c.args.call.now _ h.1 tt
+      | inr (inr (inr (inr (inr (inl h))))) ↦ as_unbuilt c.args.call.now _ h.1 tt
+      | inr (inr (inr (inr (inr (inr (inl h)))))) ↦ as_unbuilt c.args.call.now _ h.2 tt
+      | inr (inr (inr (inr (inr (inr (inr h)))))) ↦ as_unbuilt c.args.call.now _ h.2 tt
+    ])
+    c.not_built.ensures

@@ -2,7 +2,6 @@ use Rattle.std.proofs.Common.{ℕ, List, Option, Some, ap, sym, ◌∙◌}
 use Rattle.zot_model.specs.declared.call.Call.TheVariants as calls
 use Rattle.zot_model.specs.declared.reply.Reply.TheVariants.{Session}
 use Rattle.zot_model.specs.Uploads.{UploadTable}
-use Rattle.zot_repo.proofs.RepositoryLemmas.{known_or_fresh}
 use Rattle.zot_repo.proofs.ReplyLemmas.{at_call, patch_made, patch_refused, unnamed_patch}
 use Rattle.zot_repo.specs.Repository.{repo_of}
 use Rattle.zot_repo.proofs.repository.Repository.patch.Goals as goal
@@ -10,11 +9,6 @@ use Rattle.zot_repo.proofs.repository.Repository.patch.Goals.{in-Ok, in-Err}
 
 pub returns-in_default : goal.returns-in_default
 returns-in_default c = unnamed_patch c.args.self.now c.args.id c.args.range c.args.body.now c.upload_unknown.result c.in_default.is c.upload_unknown.ensures
-
-pub invariant_of-self : goal.invariant_of-self
-invariant_of-self c =
-    known_or_fresh c.self.inside.known c.self.inside.stored.entries c.self.inside.sessions c.append.new.self c.in-Some.id c.args.range c.as_slice.result.now c.append.result
-    c.self.invariant c.append.ensures.taken c.append.ensures.stays
 
 pub returns : goal.returns
 returns c moment =
