@@ -1,5 +1,5 @@
 -- A body in chunks: one chunk after another, with no count of chunks, and that a whole or a broken body
--- stays what it is with more bytes behind.
+-- stays what it is with more bytes after.
 use Rattle.std.proofs.Common.{subst, ◌≡◌, ℕ, zero, suc, ◌+◌, ◌-◌, ◌<◌, ◌≤◌, Bool, true, false, ◌&&◌, cond, eqb, ltb, List, [], ◌∷◌, ◌++◌, length, take, drop, refl, sym, ap, ◌∙◌, arith, inl, inr, Option, Some, None}
 use Rattle.std.proofs.lemmas.List.{length-append, length-drop, take-append-le, drop-append-le, drop-drop}
 use Rattle.std.proofs.lemmas.Bool.{cases_lt}
@@ -50,7 +50,7 @@ chunked_is room bytes =
     from_line_same (chunks (length bytes)) chunked room (extent line_end chunk_line_limit bytes) bytes (length bytes) (omega arith)
     (λ room rest lt. chunks_same (length bytes) (suc (length rest)) room rest (omega arith) (omega arith))
 
--- ---- more bytes behind
+-- ---- more bytes after
 
 -- the body is whole, or broken
 abbrev pub IsDecided : Body → Type 0
@@ -58,13 +58,13 @@ IsDecided (Whole body rest) = Unit {0}
 IsDecided (Unfinished body) = ⊥
 IsDecided (Broken body error) = Unit {0}
 
--- the same with more bytes behind
+-- the same with more bytes after
 abbrev pub with_more : List ℕ → Body → Body
 with_more more (Whole body rest) = Whole body (rest ++ more)
 with_more more (Unfinished body) = Unfinished body
 with_more more (Broken body error) = Broken body error
 
--- what a reader decides stays with these bytes behind
+-- what a reader decides stays with these bytes after
 abbrev Stays : (List ℕ → Body) → List ℕ → List ℕ → Type 0
 Stays next more bytes = IsDecided (next bytes) → next (bytes ++ more) ≡ with_more more (next bytes)
 
@@ -153,7 +153,7 @@ chunked_stays_below (suc n) room bytes more lt d =
     let same = extent_stays line_end chunk_line_limit bytes more line_end_is (settled_line chunked room (extent line_end chunk_line_limit bytes) bytes h) in
     rw (chunked_is room bytes, chunked_is room (bytes ++ more), same) stays
 
--- a body that is whole, or broken, stays so with more bytes behind
+-- a body that is whole, or broken, stays so with more bytes after
 pub chunked_stays : (room : ℕ) (bytes more : List ℕ) → IsDecided (chunked room bytes) → chunked room (bytes ++ more) ≡ with_more more (chunked room bytes)
 chunked_stays room bytes more d = chunked_stays_below (suc (length bytes)) room bytes more (omega arith) d
 

@@ -1,4 +1,4 @@
--- The laws of what stands at the front: it is determined, it stays with more bytes behind, and a whole
+-- The laws of what stands at the front: it is determined, it stays with more bytes after, and a whole
 -- message takes some of the bytes.
 use Rattle.std.proofs.Common.{◌≡◌, ℕ, ◌+◌, ◌<◌, ◌≤◌, Bool, true, false, cond, ltb, List, [], ◌++◌, length, take, drop, refl, sym, ap, subst, ◌∙◌, arith}
 use Rattle.std.proofs.lemmas.List.{length-append, length-drop, take-append-le, drop-append-le, drop-drop}
@@ -16,7 +16,7 @@ use Rattle.zot_head.specs.Lines.{head_end, Extent, Ends, Passes, Goes, extent}
 use Rattle.zot_head.proofs.LineLemmas.{head_end_is, IsSettled, extent_stays, extent_within}
 use Rattle.zot_head.proofs.ChunkLemmas as chunk_laws
 
--- ---- more bytes behind
+-- ---- more bytes after
 
 with_chunks_stays : (head : Head) (more : List ℕ) (body next : Body) → (chunk_laws.IsDecided body → next ≡ chunk_laws.with_more more body) → IsDecided (with_chunks head body) → with_chunks head next ≡ with_more more (with_chunks head body)
 with_chunks_stays head more (Whole bytes rest) next stays d = ap (with_chunks head) (stays tt)
@@ -62,7 +62,7 @@ settled limit bytes Goes front is d = subst IsDecided is d
 settled limit bytes Passes front is d = tt
 settled limit bytes (Ends n) front is d = tt
 
--- A whole message or a refusal stays what it is with more bytes behind.
+-- A whole message or a refusal stays what it is with more bytes after.
 pub front_stays : (limit : ℕ) (bytes more : List ℕ) (front : Front) → IsFront limit bytes front → IsDecided front → IsFront limit (bytes ++ more) (with_more more front)
 front_stays limit bytes more front is d =
     let e = extent head_end head_limit bytes in

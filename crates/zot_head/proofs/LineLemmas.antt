@@ -1,4 +1,4 @@
--- Where lines end stays where it is with more bytes behind, and lies within the bytes.
+-- Where lines end stays where it is with more bytes after, and lies within the bytes.
 use Rattle.std.proofs.Common.{zero, ◌≡◌, ◌≢◌, ◌⊎◌, ℕ, suc, ◌+◌, ◌-◌, ◌<◌, ◌≤◌, Bool, true, false, ◌&&◌, cond, eqb, leb, List, [], ◌∷◌, ◌++◌, length, take, drop, get_or, refl, sym, ap, ◌∙◌, arith, inl, inr, Option, Some, None}
 use Rattle.std.specs.Prelude.{option_map}
 use Rattle.std.proofs.lemmas.List.{take-take, length-append, length-take, length-drop, take_all, take-append-le, drop-append-le, drop-drop, drop_more}
@@ -22,7 +22,7 @@ pub map_add : (o : Option ℕ) (k n : ℕ) → option_map (λ m. k + m) o ≡ So
 map_add None k n e = absurd cc
 map_add (Some m) k n e = (m, refl, cc)
 
--- what tells of an end: it stays with more bytes behind, and lies within the bytes
+-- what tells of an end: it stays with more bytes after, and lies within the bytes
 pub record IsEnd (part_end : List ℕ → Option ℕ) : Type 0 where
   pub stays : (a b : List ℕ) (n : ℕ) → part_end a ≡ Some n → part_end (a ++ b) ≡ Some n
   pub within : (a : List ℕ) (n : ℕ) → part_end a ≡ Some n → (0 < n) × (n ≤ length a)
@@ -67,7 +67,7 @@ and_true : (a b : Bool) → (a && b) ≡ true → (a ≡ true) × (b ≡ true)
 and_true true b e = (refl, e)
 and_true false b e = absurd cc
 
--- a CR in front, and what is behind it
+-- a CR in front, and what is after it
 section_end_return : (a b : List ℕ) (n : ℕ) (t : Bool) → (t && begins_feed a) ≡ false → option_map suc (section_end false a) ≡ Some n
     → cond (t && begins_feed (a ++ b)) (Some 2) (option_map suc (section_end false (a ++ b))) ≡ option_map suc (section_end false (a ++ b))
 section_end_return [] b n t e h = absurd cc
@@ -117,7 +117,7 @@ section_end_is s = record { stays = section_end_stays s; within = section_end_wi
 
 -- ---- a head
 
--- more bytes behind don't change how long the empty lines in front are, once a section's end stands behind them
+-- more bytes after don't change how long the empty lines in front are, once a section's end stands after them
 blank_len_stays : (a b : List ℕ) (n : ℕ) → section_end false (drop (blank_len a) a) ≡ Some n → (blank_len (a ++ b) ≡ blank_len a) × (blank_len a ≤ length a)
 blank_len_stays [] b n e = absurd cc
 blank_len_stays (x ∷ []) b n e = absurd (nothing (eqb x 10) e)
@@ -168,7 +168,7 @@ IsSettled (Ends n) = Unit {0}
 IsSettled Passes = Unit {0}
 IsSettled Goes = ⊥
 
--- the same, or the bytes so far, and some of those behind
+-- the same, or the bytes so far, and some of those after
 take_behind : (limit : ℕ) (a b : List ℕ) → (limit ≤ length a) × (take limit (a ++ b) ≡ take limit a) ⊎ (length a < limit) × ((c : List ℕ) × (take limit (a ++ b) ≡ take limit a ++ c))
 take_behind limit a b =
     elim (cases_lt (length a) limit) [
@@ -204,7 +204,7 @@ extent_within part_end limit n a is h =
     found None true e = absurd cc
     found None false e = absurd cc
 
--- a section's end behind the empty lines in front
+-- a section's end after the empty lines in front
 pub head_end-behind : (bytes : List ℕ) (blank : ℕ) (o : Option ℕ) → blank ≡ blank_len bytes → o ≡ section_end false (take (length bytes - blank) (drop blank bytes))
     → option_map (λ n. blank + n) o ≡ head_end bytes
 head_end-behind bytes blank o is e =
@@ -285,7 +285,7 @@ blank_len_return_at bytes i lt e f = (
 pub blank_len_none_at : (bytes : List ℕ) (i : ℕ) → i < length bytes → at bytes i ≢ 10 → (at bytes i ≢ 13) ⊎ (begins_feed (drop (i + 1) bytes) ≡ false) → blank_len (drop i bytes) ≡ 0
 blank_len_none_at bytes i lt n o = rw (drop_more bytes i 0 lt) (blank_len_none (at bytes i) (drop (i + 1) bytes) n o)
 
--- ---- nothing behind an end is needed to see it
+-- ---- nothing after an end is needed to see it
 
 pub line_end_cut : (a : List ℕ) (n : ℕ) → line_end a ≡ Some n → line_end (take n a) ≡ Some n
 line_end_cut [] n e = absurd cc
@@ -361,7 +361,7 @@ head_end-none x y a e f =
     plain None = refl
     plain (Some m) = ap Some (omega arith)
 
--- a section's end from within a line stands behind two bytes at least
+-- a section's end from within a line stands after two bytes at least
 two_more : (x y : ℕ) (a : List ℕ) (n : ℕ) → section_end false (x ∷ y ∷ a) ≡ Some n → (k : ℕ) × (n ≡ suc (suc k))
 two_more x y a n e =
     let m = map_suc (section_end (eqb x 10) (y ∷ a)) n e in

@@ -1,4 +1,4 @@
--- Several pieces of a body in chunks, read one behind another.
+-- Several pieces of a body in chunks, read one after another.
 use Rattle.std.proofs.Common.{◌≡◌, ◌⊎◌, ℕ, ◌+◌, ◌<◌, ◌≤◌, Bool, true, false, not, List, [], ◌∷◌, ◌++◌, length, take, drop, get_or, refl, sym, ap, subst, ◌∙◌, arith, append_assoc, inl, inr, Ok, Err}
 use Rattle.std.specs.List.{flat_map}
 use Rattle.std.proofs.lemmas.List.{length-append, append-nil, drop_all, drop-append-le, take_more, take-append-drop}
@@ -23,7 +23,7 @@ none_left old new bytes fed x y is e = drop_all fed.taken bytes (omega (arith, a
 goes_to : (old new : Progress) (bytes : List ℕ) (fed : Fed) (x y : List ℕ) → Feeds old bytes (Ok fed) new x y → fed.done ≡ false → Advances old bytes new [] x y
 goes_to old new bytes fed x y is e = subst (λ (r : List ℕ). Advances old bytes new r x y) (none_left old new bytes fed x y is e) is.goes_on
 
--- more bytes behind a body that is done
+-- more bytes after a body that is done
 pub fed-behind : (old new : Progress) (bytes piece : List ℕ) (fed : Fed) (x y : List ℕ) → Feeds old bytes (Ok fed) new x y → fed.done ≡ true → Feeds old (bytes ++ piece) (Ok fed) new x y
 fed-behind old new bytes piece fed x y is e =
     let cut : drop fed.taken (bytes ++ piece) ≡ drop fed.taken bytes ++ piece = drop-append-le fed.taken bytes piece is.within in
@@ -75,7 +75,7 @@ err_behind (Whole more rest) given error x y z h out = h
 err_behind (Unfinished more) given error x y z h out = h
 err_behind (Broken more broken) given error x y z h out = (h.0, h.1 ∙ ap (λ (w : List ℕ). w ++ more) out ∙ append_assoc x given more)
 
--- where a body was read so far, bytes behind are read from there
+-- where a body was read so far, bytes after are read from there
 regroup : (old mid : Progress) (bytes piece others more x y : List ℕ) (on : Advances old bytes mid [] x y)
     → reading old (((bytes ++ piece) ++ others) ++ more) ≡ behind on.given (reading mid (piece ++ (others ++ more)))
 regroup old mid bytes piece others more x y on =

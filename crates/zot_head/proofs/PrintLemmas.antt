@@ -197,7 +197,7 @@ blank_len-blank (lf ∷ ends) b bytes n r = blank_len_feed 10 (print_blank ends 
 abbrev first_line : RequestHead → List ℕ
 first_line h = h.method ++ (32 ∷ (h.target ++ (32 ∷ print_version h.minor)))
 
--- the bytes behind the first line's text
+-- the bytes after the first line's text
 abbrev rest_of_head : RequestHead → List ℕ
 rest_of_head h = print_end h.line_end ++ (flat_map print_field h.fields ++ print_end h.last)
 

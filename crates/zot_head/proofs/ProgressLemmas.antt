@@ -61,7 +61,7 @@ cut_line p bytes b =
     let len : length (p ++ b ∷ []) ≡ suc (length p) = omega (arith, length-append p (b ∷ [])) in
     (rw whole (take_at (p ++ b ∷ []) bytes (suc (length p)) len), rw whole (drop_at (p ++ b ∷ []) bytes (suc (length p)) len))
 
--- behind a line's LF stands what its size says
+-- after a line's LF stands what its size says
 pub chunked-feed : (room : ℕ) (p bytes : List ℕ) → IsSound Line p → chunked room (p ++ 10 ∷ bytes) ≡ from_size chunked room (size_of (p ++ 10 ∷ [])) bytes
 chunked-feed room p bytes sound =
     let cut = cut_line p bytes 10 in
@@ -79,7 +79,7 @@ chunked-goes room p sound = chunked_is room p ∙ rw (line_goes chunk_line_limit
 pub line_more : (p : List ℕ) (b : ℕ) → IsSound Line p → b ≢ 10 → chunk_line_limit ≢ suc (length p) → IsSound Line (p ++ b ∷ [])
 line_more p b sound n last = (line_end-push p b sound.0 n, omega (arith, length-append p (b ∷ []), sound.1, last))
 
--- behind the last chunk's line stands the trailer section
+-- after the last chunk's line stands the trailer section
 pub from_size-zero : (room : ℕ) (size : Option ℕ) (limit : ℕ) (bytes : List ℕ) → size ≡ Some 0 → trailer_limit ≡ limit
     → from_size chunked room size bytes ≡ from_trailer (extent (trailer_end Start) limit bytes) bytes
 from_size-zero room size limit bytes e l = rw (e, l) refl
@@ -172,7 +172,7 @@ from_bytes-zero next bytes =
     let long : ltb (length bytes) 0 ≡ false = grind (arith, nat_tests) in
     rw long (behind-nil (from_tail next bytes))
 
--- the piece, and what comes behind it, cut within the piece
+-- the piece, and what comes after it, cut within the piece
 cut_piece : (n : ℕ) (piece more : List ℕ) → piece ++ more ≡ take n piece ++ (drop n piece ++ more)
 cut_piece n piece more = ap (λ (x : List ℕ). x ++ more) (sym (take-append-drop n piece)) ∙ append_assoc (take n piece) (drop n piece) more
 
@@ -222,7 +222,7 @@ advances-piece a b c bytes piece last x y z one two = record {
 
 -- ---- what a call answers
 
--- what the piece says, where nothing comes behind it
+-- what the piece says, where nothing comes after it
 says : (old new : Progress) (piece rest x y : List ℕ) (next : Body) (on : Advances old piece new rest x y) → reading new rest ≡ next → reading old piece ≡ behind on.given next
 says old new piece rest x y next on e =
     ap (reading old) (sym (append-nil piece)) ∙ on.same [] ∙ ap (λ (r : List ℕ). behind on.given (reading new r)) (append-nil rest) ∙ ap (behind on.given) e

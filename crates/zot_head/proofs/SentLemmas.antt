@@ -91,7 +91,7 @@ whole_parts given (Whole more last) body rest e = (more, cc, cc)
 whole_parts given (Unfinished more) body rest e = absurd cc
 whole_parts given (Broken more error) body rest e = absurd cc
 
--- behind a chunk's bytes stand CR LF, and the rest of the body
+-- after a chunk's bytes stand CR LF, and the rest of the body
 tail_parts : (next : List ℕ → Body) (bytes body rest : List ℕ) → from_tail next bytes ≡ Whole body rest → (after : List ℕ) × (bytes ≡ 13 ∷ 10 ∷ after) × (next after ≡ Whole body rest)
 tail_parts next [] body rest e = absurd cc
 tail_parts next (a ∷ []) body rest e = absurd cc
@@ -162,7 +162,7 @@ reads-chunk room n size bytes after more body rest e s some le long tail is on =
     regroup a b t r =
         sym (append_assoc (a ++ (b ++ 13 ∷ 10 ∷ [])) t r ∙ append_assoc a (b ++ 13 ∷ 10 ∷ []) (t ++ r) ∙ ap (λ (x : List ℕ). a ++ x) (append_assoc b (13 ∷ 10 ∷ []) (t ++ r)))
 
--- the step: one line at the front, and what stands behind it
+-- the step: one line at the front, and what stands after it
 reads-step : (n room : ℕ) (bytes body rest : List ℕ) → length bytes < suc n → Sound n → from_line chunked room (extent line_end chunk_line_limit bytes) bytes ≡ Whole body rest → Reads room bytes body rest
 reads-step n room bytes body rest lt sound h = by_line (extent line_end chunk_line_limit bytes) refl h
   where

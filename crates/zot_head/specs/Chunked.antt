@@ -26,7 +26,7 @@ abbrev pub ends_extension : List ℕ → Bool
 ends_extension [] = false
 ends_extension (b ∷ bytes) = if is_extension_byte b then ends_extension bytes else b == carriage_return && is_feed bytes
 
--- what may stand behind a chunk's size: CR LF, or a semicolon, an extension and CR LF
+-- what may stand after a chunk's size: CR LF, or a semicolon, an extension and CR LF
 abbrev pub ends_size : List ℕ → Bool
 ends_size [] = false
 ends_size (b ∷ bytes) = if b == semicolon then ends_extension bytes else b == carriage_return && is_feed bytes
@@ -60,7 +60,7 @@ from_trailer (Ends n) bytes = Whole [] (drop n bytes)
 from_trailer Passes bytes = Broken [] TooLong
 from_trailer Goes bytes = Unfinished []
 
--- the CR LF behind a chunk's bytes, and what `next` says of the bytes after it
+-- the CR LF after a chunk's bytes, and what `next` says of the bytes after it
 abbrev pub from_tail : (List ℕ → Body) → List ℕ → Body
 from_tail next [] = Unfinished []
 from_tail next (a ∷ []) = Unfinished []
@@ -72,7 +72,7 @@ from_bytes next size bytes =
     if nat_lt (length bytes) size then Unfinished bytes
     else behind (take size bytes) (from_tail next (drop size bytes))
 
--- what stands behind a chunk's line of that size, where so many bytes of a body are left
+-- what stands after a chunk's line of that size, where so many bytes of a body are left
 abbrev pub from_size : (ℕ → List ℕ → Body) → ℕ → Option ℕ → List ℕ → Body
 from_size next room None bytes = Broken [] Bad
 from_size next room (Some zero) bytes = from_trailer (extent (section_end true) trailer_limit bytes) bytes
@@ -80,7 +80,7 @@ from_size next room (Some (suc n)) bytes =
     if nat_lt room (suc n) then Broken [] TooLarge
     else from_bytes (next (room - suc n)) (suc n) bytes
 
--- a chunk's line, and what stands behind it
+-- a chunk's line, and what stands after it
 abbrev pub from_line : (ℕ → List ℕ → Body) → ℕ → Extent → List ℕ → Body
 from_line next room (Ends n) bytes = from_size next room (size_of (take n bytes)) (drop n bytes)
 from_line next room Passes bytes = Broken [] Bad

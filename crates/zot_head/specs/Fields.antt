@@ -70,7 +70,7 @@ lists_close value = list_any (λ piece. is_word close_word (trim_ows piece)) (sl
 unfoldable pub is_close : Field → Bool
 is_close f = is_word (codes "connection") f.name && lists_close f.value
 
--- whether the connection closes behind a request of that minor version (RFC 9112, sections 9.3 and 9.6): in
+-- whether the connection closes after a request of that minor version (RFC 9112, sections 9.3 and 9.6): in
 -- version 1.0 always, so `keep-alive` isn't honored
 abbrev pub closes_of : ℕ → List Field → Bool
 closes_of minor fields = minor == 0 || list_any is_close fields

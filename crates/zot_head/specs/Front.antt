@@ -48,7 +48,7 @@ pub data Refusal : Type 0 where
   SizeInvalid : Refusal
   HeadTooLong : Refusal
 
--- A whole message: its head, its body and the bytes behind it. A refused one. Or less than a whole one.
+-- A whole message: its head, its body and the bytes after it. A refused one. Or less than a whole one.
 pub data Front : Type 0 where
   Message : Head → List ℕ → List ℕ → Front
   Refused : Refusal → Front
@@ -68,7 +68,7 @@ with_chunks head (Whole body rest) = Message head body rest
 with_chunks head (Unfinished body) = Partial
 with_chunks head (Broken body error) = Refused (refusal_of error)
 
--- the message of a head that has these bytes behind it, where a body has at most so many bytes
+-- the message of a head that has these bytes after it, where a body has at most so many bytes
 abbrev pub with_body : ℕ → Head → Framing → List ℕ → Front
 with_body limit head framings.None bytes = Message head [] bytes
 with_body limit head (framings.Length n) bytes =
@@ -76,7 +76,7 @@ with_body limit head (framings.Length n) bytes =
     else (if nat_lt (length bytes) n then Partial else Message head (take n bytes) (drop n bytes))
 with_body limit head framings.Chunked bytes = with_chunks head (chunked limit bytes)
 
--- What a message is whose head ends: these bytes are its head, and those stand behind it. The number of its
+-- What a message is whose head ends: these bytes are its head, and those stand after it. The number of its
 -- lines comes first, then its form and its framing, then its body.
 pub data IsMessage (limit : ℕ) (text bytes : List ℕ) (front : Front) : Type 0 where
   crowded : IsCrowded text → front ≡ Refused HeadTooLong → IsMessage limit text bytes front
@@ -100,13 +100,13 @@ IsDecided (Message head body rest) = Unit {0}
 IsDecided (Refused refusal) = Unit {0}
 IsDecided Partial = ⊥
 
--- the same front with more bytes behind
+-- the same front with more bytes after
 abbrev pub with_more : List ℕ → Front → Front
 with_more more (Message head body rest) = Message head body (rest ++ more)
 with_more more (Refused refusal) = Refused refusal
 with_more more Partial = Partial
 
--- the rest is what stands behind some of the bytes, at least one and at most all
+-- the rest is what stands after some of the bytes, at least one and at most all
 pub record IsRestOf (bytes rest : List ℕ) : Type 0 where
   pub taken : ℕ
   pub some : 0 < taken

@@ -29,7 +29,7 @@ blank_len (a ∷ b ∷ bytes) =
     if a == line_feed then suc (blank_len (b ∷ bytes))
     else (if a == carriage_return && b == line_feed then suc (suc (blank_len bytes)) else 0)
 
--- the bytes through the first empty line behind a line that isn't empty
+-- the bytes through the first empty line after a line that isn't empty
 abbrev pub head_end : List ℕ → Option ℕ
 head_end bytes = option_map (λ n. blank_len bytes + n) (section_end false (drop (blank_len bytes) bytes))
 
@@ -37,7 +37,7 @@ head_end bytes = option_map (λ n. blank_len bytes + n) (section_end false (drop
 abbrev pub lines_in : List ℕ → ℕ
 lines_in bytes = count_by (λ b. b == line_feed) (drop (blank_len bytes) bytes)
 
--- How far a part of a message goes that may have so many bytes: it ends behind its first bytes, it is
+-- How far a part of a message goes that may have so many bytes: it ends after its first bytes, it is
 -- longer than that, or it isn't over yet.
 pub data Extent : Type 0 where
   Ends : ℕ → Extent

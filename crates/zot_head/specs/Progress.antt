@@ -23,7 +23,7 @@ trailer_end Start bytes = section_end true bytes
 trailer_end Return bytes = return_end bytes
 trailer_end Inside bytes = section_end false bytes
 
--- the same behind one more byte: the section is over, or so much of a line has come then
+-- the same after one more byte: the section is over, or so much of a line has come then
 abbrev pub trailer_end_after : Option LineSoFar → List ℕ → Option ℕ
 trailer_end_after None bytes = Some 1
 trailer_end_after (Some so_far) bytes = option_map suc (trailer_end so_far bytes)
@@ -66,7 +66,7 @@ goes_on (Trailer so_far left) = true
 goes_on Done = false
 goes_on (Failed error) = false
 
--- The bytes lead on: whatever comes behind them, what they say of the body is what was given out, and then
+-- The bytes lead on: whatever comes after them, what they say of the body is what was given out, and then
 -- what the rest of them says from the new place on.
 pub record Advances (old : Progress) (bytes : List ℕ) (new : Progress) (rest before after : List ℕ) : Type 0 where
   pub given : List ℕ
@@ -93,7 +93,7 @@ seen (Whole body rest) = body
 seen (Unfinished body) = body
 seen (Broken body error) = body
 
--- memory ran out before one of the body's bytes, behind those that were given out
+-- memory ran out before one of the body's bytes, after those that were given out
 pub record Stops (body : Body) (before after : List ℕ) : Type 0 where
   pub given : List ℕ
   pub out : after ≡ before ++ given
@@ -101,15 +101,15 @@ pub record Stops (body : Body) (before after : List ℕ) : Type 0 where
   pub front : body ≡ behind given next
   pub owes : 0 < length (seen next)
 
--- What a call answers and gives out. An error is the one that the piece shows, whatever comes behind it, or
+-- What a call answers and gives out. An error is the one that the piece shows, whatever comes after it, or
 -- memory ran out.
 abbrev pub Answers : Progress → List ℕ → Result Fed ChunkError → List ℕ → List ℕ → Type 0
 Answers old piece (Ok fed) before after = AnswersOk (reading old piece) piece fed before after
 Answers old piece (Err error) before after =
     (more : List ℕ) → AnswersErr (reading old (piece ++ more)) error before after ⊎ ((error ≡ NoMemory) × Stops (reading old (piece ++ more)) before after)
 
--- What a call over a piece answers and gives out, and how it leaves the reader. What comes behind the piece is
--- read as if all had come at once; behind the body nothing is taken, and behind an error it comes again.
+-- What a call over a piece answers and gives out, and how it leaves the reader. What comes after the piece is
+-- read as if all had come at once; after the body nothing is taken, and after an error it comes again.
 pub record Feeds (old : Progress) (piece : List ℕ) (result : Result Fed ChunkError) (new : Progress) (before after : List ℕ) : Type 0 where
   pub answers : Answers old piece result before after
   pub within : IfOk result (λ fed. fed.taken ≤ length piece)

@@ -1,17 +1,15 @@
-//! The stage of a body in chunks behind one more byte.
+//! The stage of a body in chunks after one more byte.
 ghost use Rattle.std.specs.Prelude.{◌≡◌, ℕ, ◌<◌, List, [], ◌∷◌};
 ghost use Rattle.zot_head.specs.Progress.{trailer_end, trailer_end_after, reading_at, IsSound};
 ghost use Rattle.zot_head.specs.Chunked.{from_size, chunked};
 
 use crate::chunk_error::ChunkError;
 use crate::chunk_line::size_of;
-use crate::pending::{CHUNK_LINE_LIMIT, Pending};
+use crate::limits::{CHUNK_LINE_LIMIT, TRAILER_LIMIT};
+use crate::pending::Pending;
 use crate::stage::{LineSoFar, Stage};
 
-/// The most bytes that a trailer section has, with its empty line.
-const TRAILER_LIMIT: usize = 16_384;
-
-/// The stage behind a chunk's line of that size, and how many bytes the body may have more.
+/// The stage after a chunk's line of that size, and how many bytes the body may have more.
 fn after_size(size: Option<u64>, room: u64) -> (Stage, u64)
     ensures same { (more : List ℕ) → from_size chunked room size more
         ≡ reading_at result.0 result.1 [] more }
@@ -25,7 +23,7 @@ fn after_size(size: Option<u64>, room: u64) -> (Stage, u64)
     }
 }
 
-/// The stage behind a byte of a chunk's line, and how many bytes the body may have more.
+/// The stage after a byte of a chunk's line, and how many bytes the body may have more.
 pub(crate) fn after_line_byte(line: &mut Pending, room: u64, byte: u8) -> (Stage, u64)
     requires { IsSound Stage.Line line.old }
     ensures same { (more : List ℕ) → reading_at Stage.Line room line.old (byte ∷ more)
@@ -44,7 +42,7 @@ pub(crate) fn after_line_byte(line: &mut Pending, room: u64, byte: u8) -> (Stage
     (Stage::Line, room)
 }
 
-/// The stage behind a byte of the CR LF that stands behind a chunk.
+/// The stage after a byte of the CR LF that stands after a chunk.
 pub(crate) fn after_tail_byte(first: Option<u8>, byte: u8) -> Stage
     ensures same { (room : ℕ) (more : List ℕ) → reading_at (Stage.Tail first) room [] (byte ∷ more)
         ≡ reading_at result room [] more }
@@ -57,7 +55,7 @@ pub(crate) fn after_tail_byte(first: Option<u8>, byte: u8) -> Stage
     }
 }
 
-/// How much has come of a trailer line, or none behind the empty one.
+/// How much has come of a trailer line, or none after the empty one.
 fn next_line(so_far: LineSoFar, byte: u8) -> Option<LineSoFar>
     ensures { (bytes : List ℕ) → trailer_end so_far (byte ∷ bytes)
         ≡ trailer_end_after result bytes }
@@ -71,7 +69,7 @@ fn next_line(so_far: LineSoFar, byte: u8) -> Option<LineSoFar>
     }
 }
 
-/// The stage behind a byte of the trailer section.
+/// The stage after a byte of the trailer section.
 pub(crate) fn after_trailer_byte(so_far: LineSoFar, left: usize, byte: u8) -> Stage
     requires { 0 < left }
     ensures same { (room : ℕ) (line more : List ℕ)

@@ -3,7 +3,7 @@ use thiserror::Error;
 /// Why a body in chunks isn't read.
 #[derive(Clone, Copy, Debug, PartialEq, Eq, Error)]
 pub enum ChunkError {
-    /// A chunk's line, or the line end behind a chunk, has another form (RFC 9112, section 7.1), or a
+    /// A chunk's line, or the line end after a chunk, has another form (RFC 9112, section 7.1), or a
     /// chunk's line has more than 256 bytes.
     #[error("the body's chunks have another form")]
     Bad,

@@ -15,7 +15,7 @@ fn is_extension_byte(b: u8) -> bool
     b == b'\t' || (32 <= b && b <= 126)
 }
 
-/// Whether LF stands at the place, and nothing behind it.
+/// Whether LF stands at the place, and nothing after it.
 fn is_feed(bytes: &[u8], at: usize) -> bool
     ensures { result ≡ is_feed_of (drop at bytes.now) }
 {

@@ -126,7 +126,7 @@ impl Chunks {
         }
     }
 
-    /// Reads several pieces, one behind another. It answers and gives out what one call over all of their
+    /// Reads several pieces, one after another. It answers and gives out what one call over all of their
     /// bytes would, however they were cut.
     pub fn feed_all(&mut self, pieces: &[Vec<u8>], out: &mut Vec<u8>) -> Result<Fed, ChunkError>
         requires { length (flat_map (λ piece. piece.items) pieces.now) < 2 ^ 64 }

@@ -3,6 +3,6 @@
 pub struct Fed {
     /// How many of the piece's bytes belong to the body in chunks.
     pub taken: usize,
-    /// Whether the body is whole. The bytes that aren't taken stand behind it.
+    /// Whether the body is whole. The bytes that aren't taken stand after it.
     pub done: bool,
 }

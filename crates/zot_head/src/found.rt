@@ -3,10 +3,8 @@ ghost use Rattle.zot_head.specs.Found.{found_of};
 ghost use Rattle.zot_head.specs.Limits.{head_limit};
 ghost use Rattle.zot_head.specs.Lines.{head_end as head_end_of, extent};
 
+use crate::limits::HEAD_LIMIT;
 use crate::lines::head_end;
-
-/// The most bytes that a message has through the end of its head.
-const HEAD_LIMIT: usize = 16_384;
 
 /// Where a message's head ends.
 #[derive(Clone, Copy, Debug, PartialEq, Eq)]
@@ -19,7 +17,7 @@ pub enum Found {
     TooLong,
 }
 
-/// Where the head ends of the message that begins with these bytes: behind the first empty line after a
+/// Where the head ends of the message that begins with these bytes: after the first empty line after a
 /// line that isn't empty (RFC 9112, section 2.1). Empty lines in front count (section 2.2), and a line
 /// ends with LF. `Head(n)` and `TooLong` stay what they are when more bytes come. Takes no memory.
 pub fn find_head(bytes: &[u8]) -> Found

@@ -15,6 +15,6 @@ pub struct Head {
     pub framing: Framing,
     /// Whether a `100 Continue` is owed before the body is read (RFC 9110, section 10.1.1).
     pub expects: bool,
-    /// Whether the connection closes behind this request (RFC 9112, section 9.6).
+    /// Whether the connection closes after this request (RFC 9112, section 9.6).
     pub closes: bool,
 }

@@ -8,7 +8,7 @@ ghost use Rattle.zot_head.specs.Limits.{head_limit};
 ghost use Rattle.zot_head.specs.Lines.{head_end, Ends, extent};
 ghost use Rattle.zot_head.specs.Front.{Front, Message, IsFront, IsDecided, with_more, IsRestOf};
 
-/// A whole message or a refusal stays what it is, whatever bytes come behind.
+/// A whole message or a refusal stays what it is, whatever bytes come after.
 pub fn front_stays()
     ensures { (limit : ℕ) (bytes more : List ℕ) (front : Front) → IsFront limit bytes front
         → IsDecided front → IsFront limit (bytes ++ more) (with_more more front) }
@@ -51,7 +51,7 @@ pub fn head_ends_as_read()
         → extent head_end head_limit bytes ≡ Ends (length (print_request request)) }
 {}
 
-/// The bytes of a head, without those behind it, end where it does.
+/// The bytes of a head, without those after it, end where it does.
 pub fn head_ends_alone()
     ensures { (bytes : List ℕ) (n : ℕ) → extent head_end head_limit bytes ≡ Ends n
         → head_end (take n bytes) ≡ Some n }

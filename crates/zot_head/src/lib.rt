@@ -14,13 +14,12 @@ mod framing;
 mod head;
 mod head_error;
 mod laws;
+mod limits;
 mod lines;
 mod pending;
 mod read;
 mod rules;
 mod stage;
-#[cfg(test)]
-mod tests;
 mod word;
 
 pub use crate::chunk_error::ChunkError;
@@ -36,5 +35,6 @@ pub use crate::laws::{
     front_is_one, front_stays, head_ends_alone, head_ends_as_read, message_takes,
     only_sent_is_read, refused_for_its_bytes, sent_is_read,
 };
+pub use crate::limits::{CHUNK_LINE_LIMIT, HEAD_LIMIT, LINE_LIMIT, TRAILER_LIMIT};
 pub use crate::read::read_head;
 pub use crate::rules::{first_named, length_of};

@@ -46,7 +46,7 @@ pub(crate) fn blank_len(bytes: &[u8]) -> usize
     at
 }
 
-/// The bytes through the first empty line behind a line that isn't empty.
+/// The bytes through the first empty line after a line that isn't empty.
 pub(crate) fn head_end(bytes: &[u8]) -> Option<usize>
     ensures value { result ≡ head_end_of bytes.now }
     ensures within { IfSome result (λ n. n ≤ length bytes.now) }

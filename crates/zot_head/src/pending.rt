@@ -2,9 +2,6 @@ ghost use Rattle.std.specs.Prelude.{◌≡◌, ◌<◌, [], ◌∷◌, ◌++◌,
 
 use std::marker::Model;
 
-/// The most bytes that a chunk's line has, with its CR LF.
-pub(crate) const CHUNK_LINE_LIMIT: usize = 256;
-
 /// The bytes of a chunk's line that have come. Contracts see the list.
 #[derive(Drop)]
 pub(crate) struct Pending {

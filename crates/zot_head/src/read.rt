@@ -10,6 +10,7 @@ use crate::field::Field;
 use crate::field_list::FieldList;
 use crate::head::Head;
 use crate::head_error::HeadError;
+use crate::limits::LINE_LIMIT;
 use crate::lines::{head_end, lines_in};
 use crate::rules::{closes, expects, framing};
 use httparse::Status;
@@ -17,9 +18,6 @@ use httparse::spans::{EMPTY_HEADER_SPAN, HeaderSpan, RequestSpans, Span, parse_r
 use std::alloc::{AllocError, Global};
 use std::str;
 use zot_digest::{Bytes, Words};
-
-/// The most lines between a head's first line and its empty line.
-const LINE_LIMIT: usize = 64;
 
 /// Whether a head has more lines than are allowed.
 fn is_crowded(bytes: &[u8]) -> bool

@@ -99,7 +99,7 @@ pub(crate) fn expects(minor: u8, fields: &[Field], framing: Framing) -> bool
     minor == 1 && has_body && asks_continue(fields)
 }
 
-/// Whether the connection closes behind the request.
+/// Whether the connection closes after the request.
 pub(crate) fn closes(minor: u8, fields: &[Field]) -> bool
     ensures { result ≡ closes_of minor fields.now }
 {

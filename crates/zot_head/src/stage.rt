@@ -18,12 +18,12 @@ pub(crate) enum Stage {
     Line,
     /// In a chunk, of which so many bytes are still to come.
     Bytes(u64),
-    /// In the CR LF behind a chunk, of which this byte has come.
+    /// In the CR LF after a chunk, of which this byte has come.
     Tail(Option<u8>),
     /// In the trailer section, which may have so many bytes more.
     Trailer(LineSoFar, usize),
-    /// Behind the body.
+    /// After the body.
     Done,
-    /// Behind an error.
+    /// After an error.
     Failed(ChunkError),
 }

@@ -9,7 +9,7 @@ use Rattle.zot_names.specs.declared.component.Place.TheVariants.{Start, Run, Und
 use Rattle.zot_names.specs.Name.{AreDashes, IsComponent, IsRun, IsSeparator, is_alphanumeric}
 use Rattle.zot_names.specs.Reading.{behind_separator, completes, place_behind}
 
--- a separator with a run behind it
+-- a separator with a run after it
 abbrev IsPair : List ℕ × List ℕ → Type 0
 IsPair pair = IsSeparator pair.0 × IsRun pair.1
 
@@ -26,7 +26,7 @@ Expected Dashes text = (front : List ℕ) × (rest : List ℕ) × AllPass (λ c.
 AllPass-cons : (p : ℕ → Bool) (c : ℕ) (xs : List ℕ) → p c ≡ true → AllPass p xs → AllPass p (c ∷ xs)
 AllPass-cons p c xs h all = All-cons (λ x. p x ≡ true) c xs h all
 
--- behind a run, a separator and a component go on as the run's component does
+-- after a run, a separator and a component go on as the run's component does
 behind_run : (separator rest text : List ℕ) → IsSeparator separator → IsComponent rest → text ≡ separator ++ rest → Expected Run text
 behind_run separator rest text is component e =
     let same : text ≡ (separator ++ component.first) ++ spelled component.more =
@@ -49,7 +49,7 @@ of_byte Run c rest a h = (c ∷ h.0, h.1, AllPass-cons is_alphanumeric c h.0 a h
 of_byte Underscore c rest a h = ([], c ∷ rest, inl refl, component_from c rest a h, refl)
 of_byte Dashes c rest a h = ([], c ∷ rest, All-nil _, component_from c rest a h, refl)
 
--- behind `_`
+-- after `_`
 of_underscore : (rest : List ℕ) → Expected Underscore rest → Expected Run (95 ∷ rest)
 of_underscore rest (front, after, is, component, e) =
     elim is [
@@ -57,13 +57,13 @@ of_underscore rest (front, after, is, component, e) =
       | inr one ↦ behind_run (codes "__") after (95 ∷ rest) (inr (inr (inl refl))) component (ap (λ t. 95 ∷ t) (e ∙ ap (λ t. t ++ after) one))
     ]
 
--- behind `-`
+-- after `-`
 of_dash : (rest : List ℕ) → Expected Dashes rest → Expected Run (45 ∷ rest)
 of_dash rest (front, after, dashes, component, e) =
     behind_run (45 ∷ front) after (45 ∷ rest) (inr (inr (inr (record { nonempty = omega arith; bytes = AllPass-cons (λ d. d == 45) 45 front refl dashes })))) component
     (ap (λ t. 45 ∷ t) e)
 
--- behind a byte of a separator
+-- after a byte of a separator
 of_separator : (place : Place) (c : ℕ) (rest : List ℕ) → ((p : Place) → completes (Some p) rest ≡ true → Expected p rest)
     → completes (behind_separator place c) rest ≡ true → Expected place (c ∷ rest)
 of_separator Start c rest ih h = cc h
@@ -112,11 +112,11 @@ completes_sound [] Underscore h = cc h
 completes_sound [] Dashes h = cc h
 completes_sound (c ∷ rest) place h = behind_sound place c rest (completes_sound rest) h
 
--- a letter or a digit leads behind it, wherever it stands
+-- a letter or a digit leads after it, wherever it stands
 byte_passes : (place : Place) (c : ℕ) (rest : List ℕ) → is_alphanumeric c ≡ true → completes (Some place) (c ∷ rest) ≡ completes (Some Run) rest
 byte_passes place c rest byte = ap (λ b. completes (cond b (Some Run) (behind_separator place c)) rest) byte
 
--- a run leads behind a letter or a digit
+-- a run leads after a letter or a digit
 run_passes : (run rest : List ℕ) → AllPass is_alphanumeric run → completes (Some Run) (run ++ rest) ≡ completes (Some Run) rest
 run_passes [] rest all = refl
 run_passes (c ∷ run) rest all =
@@ -141,7 +141,7 @@ dashes_from (c ∷ dashes) rest are =
     let dash = eqb-true c 45 (All-head (λ x. (x == 45) ≡ true) c dashes are.bytes) in
     rw dash (dashes_pass dashes rest (All-tail (λ x. (x == 45) ≡ true) c dashes are.bytes))
 
--- a separator with a run behind it leads behind a letter or a digit again
+-- a separator with a run after it leads after a letter or a digit again
 pair_passes : (separator run rest : List ℕ) → IsSeparator separator → IsRun run → completes (Some Run) (separator ++ (run ++ rest)) ≡ completes (Some Run) rest
 pair_passes separator run rest is is_run =
     elim is [

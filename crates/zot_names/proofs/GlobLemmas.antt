@@ -84,7 +84,7 @@ pub within_slash : (pieces : List Piece) (text : List ℕ) → StandFor (Within 
 within_slash pieces text ([], rest, e, clear, h) = subst (StandFor pieces) (sym e) h
 within_slash pieces text (d ∷ run, rest, e, clear, h) = let first : d ≡ slash = cc e in absurd (All-head IsClear d run clear first)
 
--- a run behind a run
+-- a run after a run
 pub across_within : (pieces : List Piece) (text : List ℕ) → StandFor (Across ∷ Within ∷ pieces) text → StandFor (Across ∷ pieces) text
 across_within pieces text (run, rest, e, (more, end, f, clear, h)) =
     (run ++ more, end, e ∙ ap (λ t. run ++ t) f ∙ sym (append_assoc run more end), h)
@@ -101,7 +101,7 @@ across_bytes bytes text pieces (run, rest, e, h) =
     let (gap, g, _) = cut_later bytes text (run ++ bytes) end whole (omega (arith, length-append run bytes)) in
     (gap, end, g, k)
 
--- ---- a star behind a star
+-- ---- a star after a star
 
 clear_rest : (front rest : List ℕ) → HasNoSlash (front ++ rest) → HasNoSlash rest
 clear_rest [] rest h = h
@@ -128,7 +128,7 @@ behind_first (c ∷ front) [] after rest clear clear' e = let first : c ≡ slas
 behind_first (c ∷ front) (d ∷ other) after rest clear clear' e =
     behind_first front other after rest (All-tail IsClear c front clear) (All-tail IsClear d other clear') (cc e)
 
--- where bytes come later behind a run without a slash, and such a run behind them, what lies between has no slash either
+-- where bytes come later after a run without a slash, and such a run after them, what lies between has no slash either
 gap_is_clear : (run bytes more gap : List ℕ) → HasNoSlash run → HasNoSlash more → (run ++ bytes) ++ more ≡ bytes ++ gap → HasNoSlash gap
 gap_is_clear run bytes more gap clear clear' e =
     elim (first_slash bytes) [
@@ -147,7 +147,7 @@ gap_is_clear run bytes more gap clear clear' e =
         let same = behind_first (run ++ front) front (after ++ more) (after ++ gap) (All-append IsClear run front clear clear'') clear'' (sym left ∙ e ∙ right) in
         subst HasNoSlash (same_rest after more gap same) clear'
 
--- behind a star, a later match of bytes and a star is an earlier one
+-- after a star, a later match of bytes and a star is an earlier one
 pub within_bytes : (bytes text : List ℕ) (pieces : List Piece) → StandFor (Within ∷ (bytes_of bytes ++ (Within ∷ pieces))) (bytes ++ text) → StandFor (Within ∷ pieces) text
 within_bytes bytes text pieces (run, rest, e, clear, h) =
     let (behind, f, (more, end, g, clear', k)) = bytes_stand bytes rest (Within ∷ pieces) h in

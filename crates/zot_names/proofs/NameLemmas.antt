@@ -88,7 +88,7 @@ two_need_two v w part h = split h.before h.spelled
     split (b ∷ []) e = cc e
     split (b ∷ d ∷ before) e = cc e
 
--- what reserves a part behind the one before it
+-- what reserves a part after the one before it
 abbrev IsReservedBehind : List ℕ → List ℕ → Type 0
 IsReservedBehind previous part =
     (part ≡ codes "index.json") ⊎ ((part ≡ codes "oci-layout") ⊎ ((previous ≡ codes "blobs") × ((part ≡ codes "sha256") ⊎ (part ≡ codes "sha512"))))
@@ -101,7 +101,7 @@ reserved_decides previous part =
     (Decides-and _ _ (bytes_eq-Decides previous (codes "blobs"))
     (Decides-or _ _ (bytes_eq-Decides part (codes "sha256")) (bytes_eq-Decides part (codes "sha512")))))
 
--- no part behind this one is reserved
+-- no part after this one is reserved
 record IsFreeBehind (previous : List ℕ) (parts : List (List ℕ)) : Type 0 where
   index : ¬ StandInRow (codes "index.json" ∷ []) parts
   layout : ¬ StandInRow (codes "oci-layout" ∷ []) parts
@@ -171,7 +171,7 @@ all_follow_from previous (part ∷ parts) h =
     ((may_follow_decides previous part).1 (h.0.0, free_first previous part parts h.1))
     (all_follow_from part parts (h.0.1, free_rest previous part parts h.1))
 
--- behind nothing
+-- after nothing
 free_parts : (parts : List (List ℕ)) → IsFreeBehind [] parts → IsFree parts
 free_parts parts h = record {
   index = h.index;

@@ -30,7 +30,7 @@ bytes_whole glob text pieces rest h k = stand_at _ _ _ _ (sym h.glob_is) (sym h.
 pub bytes_fail : (glob text pieces rest : List ℕ) → IsBehindBytes glob text pieces rest → ¬ StandFor (pieces_of pieces) rest → ¬ StandFor (pieces_of glob) text
 bytes_fail glob text pieces rest h none k = none (behind_bytes h.bytes rest (pieces_of pieces) (stand_at _ _ _ _ h.glob_is h.text_is k))
 
--- ---- a star behind bytes
+-- ---- a star after bytes
 
 module _ (star : Piece) (glob text behind rest : List ℕ) (h : IsBehindStar star glob text behind rest) where
   to_star : StandFor (pieces_of glob) text → StandFor (star ∷ pieces_of behind) rest

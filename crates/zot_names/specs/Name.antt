@@ -20,7 +20,7 @@ pub record AreDashes (text : List ℕ) : Type 0 where
 abbrev pub IsSeparator : List ℕ → Type 0
 IsSeparator text = (text ≡ codes ".") ⊎ ((text ≡ codes "_") ⊎ ((text ≡ codes "__") ⊎ AreDashes text))
 
--- a component: a run, and behind it any number of separators, each with a run behind it
+-- a component: a run, and after it any number of separators, each with a run after it
 pub record IsComponent (text : List ℕ) : Type 0 where
   pub first : List ℕ
   pub more : List (List ℕ × List ℕ)

@@ -5,14 +5,14 @@ use Rattle.zot_names.specs.declared.component.Place.{Place}
 use Rattle.zot_names.specs.declared.component.Place.TheVariants.{Start, Run, Underscore, Dashes}
 use Rattle.zot_names.specs.Name.{is_alphanumeric}
 
--- the place behind a byte of a separator, or none where it can't stand
+-- the place after a byte of a separator, or none where it can't stand
 abbrev pub behind_separator : Place → ℕ → Option Place
 behind_separator Start c = None
 behind_separator Run c = if c == 46 then Some Start else if c == 95 then Some Underscore else if c == 45 then Some Dashes else None
 behind_separator Underscore c = if c == 95 then Some Start else None
 behind_separator Dashes c = if c == 45 then Some Dashes else None
 
--- the place behind a byte
+-- the place after a byte
 abbrev pub place_behind : Place → ℕ → Option Place
 place_behind place c = if is_alphanumeric c then Some Run else behind_separator place c
 
@@ -29,17 +29,17 @@ completes None bytes = false
 completes (Some place) [] = may_end place
 completes (Some place) (c ∷ bytes) = completes (place_behind place c) bytes
 
--- whether a part is reserved, behind the one before it
+-- whether a part is reserved, after the one before it
 unfoldable pub is_reserved : List ℕ → List ℕ → Bool
 is_reserved previous part =
     bytes_eq part (codes "index.json") || (bytes_eq part (codes "oci-layout")
     || (bytes_eq previous (codes "blobs") && (bytes_eq part (codes "sha256") || bytes_eq part (codes "sha512"))))
 
--- whether a part may stand behind the one before it
+-- whether a part may stand after the one before it
 abbrev pub may_follow : List ℕ → List ℕ → Bool
 may_follow previous part = completes (Some Start) part && not (is_reserved previous part)
 
--- whether each of these parts may stand behind the one before it, the first behind this one
+-- whether each of these parts may stand after the one before it, the first after this one
 abbrev pub may_all_follow : List ℕ → List (List ℕ) → Bool
 may_all_follow previous [] = true
 may_all_follow previous (part ∷ parts) = may_follow previous part && may_all_follow part parts

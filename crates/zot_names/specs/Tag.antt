@@ -10,7 +10,7 @@ is_word_byte c = (nat_le 97 c && nat_le c 122) || ((nat_le 65 c && nat_le c 90) 
 abbrev pub is_tag_byte : ℕ → Bool
 is_tag_byte c = is_word_byte c || ((c == 46) || (c == 45))
 
--- a tag: a letter, a digit or `_`, and behind it at most 127 of these, `.` and `-`
+-- a tag: a letter, a digit or `_`, and after it at most 127 of these, `.` and `-`
 pub record IsTag (text : List ℕ) : Type 0 where
   pub first : ℕ
   pub more : List ℕ

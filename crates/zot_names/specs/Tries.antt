@@ -9,7 +9,7 @@ use Rattle.zot_names.specs.declared.reached.Reached.TheVariants as reached
 use Rattle.zot_names.specs.Glob.{StandFor, pieces_of}
 use Rattle.zot_names.specs.Name.{slash}
 
--- the glob and the text begin with the same bytes, behind which these are left
+-- the glob and the text begin with the same bytes, after which these are left
 pub record IsBehindBytes (glob text behind rest : List ℕ) : Type 0 where
   pub bytes : List ℕ
   pub glob_is : pieces_of glob ≡ map Byte bytes ++ pieces_of behind
@@ -29,18 +29,18 @@ Reaches glob text (reached.Within behind rest) = IsBehindStar Within glob text b
 Reaches glob text (reached.Across behind rest) = IsBehindStar Across glob text behind.now rest.now
 Reaches glob text reached.Failed = ¬ StandFor (pieces_of glob) text
 
--- the pieces, behind this star where there is one
+-- the pieces, after this star where there is one
 abbrev pub behind_star : Bool → Piece → List Piece → List Piece
 behind_star true star pieces = star ∷ pieces
 behind_star false star pieces = pieces
 
--- the whole glob stands for the text where what is left of it, behind this star, stands for what is left of the text;
+-- the whole glob stands for the text where what is left of it, after this star, stands for what is left of the text;
 -- and where the glob stands for an end of the text, what is left of it does for an end of what is left
 pub record IsLeft (star : Piece) (starred : Bool) (glob text behind rest : List ℕ) : Type 0 where
   pub same : StandFor (pieces_of glob) text ↔ StandFor (behind_star starred star (pieces_of behind)) rest
   pub later : StandFor (Across ∷ pieces_of glob) text → StandFor (Across ∷ pieces_of behind) rest
 
--- the text begins with a byte other than a slash, behind which this is left
+-- the text begins with a byte other than a slash, after which this is left
 abbrev pub BeginsWithOther : List ℕ → List ℕ → Type 0
 BeginsWithOther text rest = (first : ℕ) × (first ≢ slash) × (text ≡ first ∷ rest)
 

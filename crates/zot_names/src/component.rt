@@ -6,18 +6,18 @@ ghost use Rattle.zot_names.specs.declared.component.Place.TheVariants as places;
 /// Where the reader of a component stands.
 #[derive(Clone, Copy)]
 enum Place {
-    /// Where a run has to begin: at the front, or behind `.` or `__`.
+    /// Where a run has to begin: at the front, or after `.` or `__`.
     Start,
-    /// Behind a letter or a digit.
+    /// After a letter or a digit.
     Run,
-    /// Behind one `_`.
+    /// After one `_`.
     Underscore,
-    /// Behind one or more `-`.
+    /// After one or more `-`.
     Dashes,
 }
 
 impl Place {
-    // The place behind this byte, or none where the byte can't stand here.
+    // The place after this byte, or none where the byte can't stand here.
     fn behind(self, byte: u8) -> Option<Place>
         ensures { result ≡ place_behind self byte }
     {

@@ -84,7 +84,7 @@ fn skip_bytes<'a>(glob: &'a [u8], text: &'a [u8]) -> Reached<'a>
     }
 }
 
-// What stands behind this byte, where the text begins with it.
+// What stands after this byte, where the text begins with it.
 fn behind_byte(byte: u8, text: &[u8]) -> Option<&[u8]>
     ensures { MatchOption result ((left : List ℕ) → text.now ≢ byte ∷ left) (λ left. text.now ≡ byte ∷ left.now) }
 {
@@ -94,7 +94,7 @@ fn behind_byte(byte: u8, text: &[u8]) -> Option<&[u8]>
     }
 }
 
-// What stands behind the text's first byte, where that isn't a slash.
+// What stands after the text's first byte, where that isn't a slash.
 fn behind_other(text: &[u8]) -> Option<&[u8]>
     ensures { MatchOption result (BeginsWithNone text.now) (λ left. BeginsWithOther text.now left.now) }
 {

@@ -19,14 +19,14 @@ pub fn are_components(bytes: &[u8]) -> bool
     true
 }
 
-// Whether a part may stand behind the one before it.
+// Whether a part may stand after the one before it.
 fn may_follow(previous: &[u8], part: &[u8]) -> bool
     ensures { result ≡ may_follow previous.now part.now }
 {
     is_component(part) && !is_reserved(previous, part)
 }
 
-// Whether a part is reserved, behind the one before it.
+// Whether a part is reserved, after the one before it.
 #[tactic(auto, unfolding(crate::specs::Reading::is_reserved))]
 fn is_reserved(previous: &[u8], part: &[u8]) -> bool
     ensures { result ≡ is_reserved previous.now part.now }

@@ -5,7 +5,7 @@
 pub enum Passed<'a> {
     /// To the end of both.
     Whole,
-    /// To the `**`, behind which these are left of the glob and of the text.
+    /// To the `**`, after which these are left of the glob and of the text.
     Across(&'a [u8], &'a [u8]),
     /// Nowhere: the glob doesn't match the text.
     Failed,

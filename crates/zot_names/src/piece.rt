@@ -13,7 +13,7 @@ pub enum Piece {
     Across,
 }
 
-/// The piece at the front of a glob and what stands behind it, or none of an empty glob.
+/// The piece at the front of a glob and what stands after it, or none of an empty glob.
 pub fn first_piece(glob: &[u8]) -> Option<(Piece, &[u8])>
     ensures pieces { MatchOption result (glob.now ≡ [])
         (λ first. pieces_of glob.now ≡ first.0 ∷ pieces_of first.1.now) }

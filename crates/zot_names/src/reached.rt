@@ -5,9 +5,9 @@
 pub enum Reached<'a> {
     /// To the end of both.
     Whole,
-    /// To a `*`, behind which these are left of the glob and of the text.
+    /// To a `*`, after which these are left of the glob and of the text.
     Within(&'a [u8], &'a [u8]),
-    /// To a `**`, behind which these are left.
+    /// To a `**`, after which these are left.
     Across(&'a [u8], &'a [u8]),
     /// Nowhere: the glob doesn't match the text.
     Failed,

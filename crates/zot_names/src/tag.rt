@@ -9,7 +9,7 @@ use std::alloc::{AllocError, Global};
 use std::marker::Model;
 use zot_digest::Words;
 
-/// The most bytes that may stand behind the first one.
+/// The most bytes that may stand after the first one.
 const MORE: usize = 127;
 
 /// A tag. Contracts see the list of its bytes, by which tags are ordered.
@@ -98,14 +98,14 @@ fn is_word_byte(byte: u8) -> bool
     byte.is_ascii_alphanumeric() || byte == b'_'
 }
 
-// Whether these bytes may stand behind a tag's first one.
+// Whether these bytes may stand after a tag's first one.
 fn may_stand_behind(more: &[u8]) -> bool
     ensures { IsTrue result ↔ (AllPass is_tag_byte more.now × (length more.now ≤ MORE)) }
 {
     more.len() <= MORE && are_tag_bytes(more)
 }
 
-// Whether each byte may stand behind a tag's first one.
+// Whether each byte may stand after a tag's first one.
 fn are_tag_bytes(bytes: &[u8]) -> bool
     ensures { IsTrue result ↔ AllPass is_tag_byte bytes.now }
 {

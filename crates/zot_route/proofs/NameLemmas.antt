@@ -4,7 +4,7 @@ use Rattle.std.proofs.lemmas.List.{append-nil, append_assoc}
 use Rattle.std.specs.List.{join_with_byte}
 use Rattle.zot_route.specs.Path.{slash}
 
--- parts, each behind a slash
+-- parts, each after a slash
 abbrev pub behind : List (List ℕ) → List ℕ
 behind [] = []
 behind (part ∷ parts) = (slash ∷ []) ++ (part ++ behind parts)

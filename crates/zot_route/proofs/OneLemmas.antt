@@ -21,7 +21,7 @@ use Rattle.zot_model.specs.declared.call.Call.{Call}
 use Rattle.zot_model.specs.declared.call.Call.TheVariants as calls
 use Rattle.zot_model.specs.declared.code.Code.TheVariants.{ManifestInvalid, ManifestUnknown}
 use Rattle.zot_model.specs.declared.reply.Reply.{Reply}
-use Rattle.zot_model.specs.Reply.{refusal}
+use Rattle.zot_model.specs.Refusals.{refusal}
 use Rattle.zot_names.specs.Tag.{IsTag, is_tag_byte}
 use Rattle.zot_names.specs.Upload.{upload_text}
 use Rattle.zot_names.proofs.ByteLemmas.{tag_bytes}
@@ -105,11 +105,11 @@ call_one call text bad asked other (r, h, e) (s, k, f) = e ∙ ap (on_reference 
 
 manifest_one : (verb : Verb) (text : List ℕ) (fields : List Field) (body : List ℕ) (asked other : Asked)
     → AsksManifest verb text fields body asked → AsksManifest verb text fields body other → asked ≡ other
-manifest_one Get text fields body asked other h k = call_one calls.GetManifest text (refusal 404 ManifestUnknown) asked other h k
-manifest_one HeadVerb text fields body asked other h k = call_one calls.HeadManifest text (refusal 404 ManifestUnknown) asked other h k
-manifest_one Delete text fields body asked other h k = call_one calls.DeleteManifest text (refusal 404 ManifestUnknown) asked other h k
+manifest_one Get text fields body asked other h k = call_one calls.GetManifest text (refusal ManifestUnknown) asked other h k
+manifest_one HeadVerb text fields body asked other h k = call_one calls.HeadManifest text (refusal ManifestUnknown) asked other h k
+manifest_one Delete text fields body asked other h k = call_one calls.DeleteManifest text (refusal ManifestUnknown) asked other h k
 manifest_one Put text fields body asked other (r, h, e) (s, k, f) =
-    puts_one fields body s asked other (subst (λ x. Puts fields body x asked) (refers_one text (refusal 400 ManifestInvalid) r s h k) e) f
+    puts_one fields body s asked other (subst (λ x. Puts fields body x asked) (refers_one text (refusal ManifestInvalid) r s h k) e) f
 manifest_one Post text fields body asked other h k = h ∙ sym k
 manifest_one Patch text fields body asked other h k = h ∙ sym k
 manifest_one Other text fields body asked other h k = h ∙ sym k

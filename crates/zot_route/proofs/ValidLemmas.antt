@@ -19,7 +19,7 @@ use Rattle.zot_model.specs.declared.code.Code.TheVariants.{DigestInvalid, Manife
 use Rattle.zot_model.specs.declared.reply.Reply.{Reply}
 use Rattle.zot_model.specs.declared.span.Span.{Span}
 use Rattle.zot_model.specs.Fits.{Declines}
-use Rattle.zot_model.specs.Reply.{refusal}
+use Rattle.zot_model.specs.Refusals.{refusal}
 use Rattle.zot_model.specs.Valid.{IsShort, IsSpan, IsValid, IsValidCall, body_limit}
 use Rattle.zot_route.specs.Asked.{Asked, AsksManifest, Puts, Refers, asks_base, asks_blob, asks_post, asks_referrers, asks_tags, asks_upload, digest_or, finish_of, needed_digest, on_digest, on_reference, optional_digest, page_of, patch_of, post_of, range_or, some_digest, some_number, verb_of}
 use Rattle.zot_route.specs.Lines.{range_by, range_of, some_span, span_by, span_of}
@@ -197,7 +197,7 @@ upload_fine Other id range digest body h = inr (inl (refl, tt))
 
 -- ---- manifests
 
-bad_if : (colon : Bool) (other : Reply) → Declines other → Declines (if colon then refusal 400 DigestInvalid else other)
+bad_if : (colon : Bool) (other : Reply) → Declines other → Declines (if colon then refusal DigestInvalid else other)
 bad_if true other h = (refl, tt)
 bad_if false other h = h
 
@@ -215,10 +215,10 @@ puts_fine fields body (Ok reference) asked h (inl k) = subst (IsFine body) (sym 
 puts_fine fields body (Ok reference) asked h (inr (le, media, are, e)) = subst (IsFine body) (sym e) ((λ short. le), λ f. cc f)
 
 manifest_fine : (verb : Verb) (text : List ℕ) (fields : List Field) (body : List ℕ) (asked : Asked) → AsksManifest verb text fields body asked → IsFine body asked
-manifest_fine Get text fields body asked (r, h, e) = subst (IsFine body) (sym e) (on_fine body calls.GetManifest r (λ x. ((λ le. tt), λ f. cc f)) (refers_fine text (refusal 404 ManifestUnknown) r (refl, tt) h))
-manifest_fine HeadVerb text fields body asked (r, h, e) = subst (IsFine body) (sym e) (on_fine body calls.HeadManifest r (λ x. ((λ le. tt), λ f. cc f)) (refers_fine text (refusal 404 ManifestUnknown) r (refl, tt) h))
-manifest_fine Delete text fields body asked (r, h, e) = subst (IsFine body) (sym e) (on_fine body calls.DeleteManifest r (λ x. ((λ le. tt), λ f. cc f)) (refers_fine text (refusal 404 ManifestUnknown) r (refl, tt) h))
-manifest_fine Put text fields body asked (r, h, k) = puts_fine fields body r asked (refers_fine text (refusal 400 ManifestInvalid) r (refl, tt) h) k
+manifest_fine Get text fields body asked (r, h, e) = subst (IsFine body) (sym e) (on_fine body calls.GetManifest r (λ x. ((λ le. tt), λ f. cc f)) (refers_fine text (refusal ManifestUnknown) r (refl, tt) h))
+manifest_fine HeadVerb text fields body asked (r, h, e) = subst (IsFine body) (sym e) (on_fine body calls.HeadManifest r (λ x. ((λ le. tt), λ f. cc f)) (refers_fine text (refusal ManifestUnknown) r (refl, tt) h))
+manifest_fine Delete text fields body asked (r, h, e) = subst (IsFine body) (sym e) (on_fine body calls.DeleteManifest r (λ x. ((λ le. tt), λ f. cc f)) (refers_fine text (refusal ManifestUnknown) r (refl, tt) h))
+manifest_fine Put text fields body asked (r, h, k) = puts_fine fields body r asked (refers_fine text (refusal ManifestInvalid) r (refl, tt) h) k
 manifest_fine Post text fields body asked e = subst (IsFine body) (sym e) (inr (inl (refl, tt)))
 manifest_fine Patch text fields body asked e = subst (IsFine body) (sym e) (inr (inl (refl, tt)))
 manifest_fine Other text fields body asked e = subst (IsFine body) (sym e) (inr (inl (refl, tt)))

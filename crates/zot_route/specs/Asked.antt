@@ -10,15 +10,12 @@ use Rattle.zot_media.specs.declared.reference.Reference.{Reference}
 use Rattle.zot_media.specs.declared.reference.Reference.TheVariants as references
 use Rattle.zot_model.specs.declared.call.Call.{Call}
 use Rattle.zot_model.specs.declared.call.Call.TheVariants as calls
-use Rattle.zot_model.specs.declared.code.Code.TheVariants.{BlobUploadInvalid, DigestInvalid, ManifestInvalid, ManifestUnknown, SizeInvalid, Unsupported}
-use Rattle.zot_model.specs.declared.detail.Detail.TheVariants.{Allow}
-use Rattle.zot_model.specs.declared.methods.Methods.{Methods}
+use Rattle.zot_model.specs.declared.code.Code.TheVariants.{DigestInvalid, ManifestInvalid, ManifestUnknown, SizeInvalid}
 use Rattle.zot_model.specs.declared.methods.Methods.TheVariants as methods
 use Rattle.zot_model.specs.declared.mount.Mount.{Mount}
 use Rattle.zot_model.specs.declared.reply.Reply.{Reply}
-use Rattle.zot_model.specs.declared.reply.Reply.TheVariants.{Refused}
 use Rattle.zot_model.specs.declared.span.Span.{Span}
-use Rattle.zot_model.specs.Reply.{refusal}
+use Rattle.zot_model.specs.Refusals.{not_allowed, range_invalid, refusal, unsupported_query}
 use Rattle.zot_model.specs.Valid.{manifest_limit}
 use Rattle.zot_names.specs.Name.{IsName}
 use Rattle.zot_names.specs.Tag.{IsTag}
@@ -42,16 +39,12 @@ verb_of text =
     else if bytes_eq text (codes "DELETE") then Delete
     else Other
 
--- the path has other methods: these (RFC 9110, section 15.5.6)
-abbrev pub not_allowed : Methods → Reply
-not_allowed which = Refused 405 Unsupported (Allow which)
-
 -- ---- digests
 
 -- a text that has to be a digest
 abbrev pub digest_or : Option (List ℕ) → Result (List ℕ) Reply
 digest_or (Some digest) = Ok digest
-digest_or None = Err (refusal 400 DigestInvalid)
+digest_or None = Err (refusal DigestInvalid)
 
 -- a call on a digest
 abbrev pub on_digest : (List ℕ → Call) → Result (List ℕ) Reply → Asked
@@ -91,7 +84,7 @@ asks_referrers _ text filter = Err (not_allowed methods.List)
 -- a number that has to be one
 abbrev pub some_number : Option ℕ → Result (Option ℕ) Reply
 some_number (Some n) = Ok (Some n)
-some_number None = Err (refusal 400 Unsupported)
+some_number None = Err unsupported_query
 
 -- a text that has to be 1 to 18 digits where it is there
 abbrev pub number_or : Option (List ℕ) → Result (Option ℕ) Reply
@@ -140,12 +133,12 @@ IsId text None = (id : ℕ) → id < 2 ^ 64 → text ≢ upload_text id
 -- a range that has to be one where it is there
 abbrev pub range_or : Option (Option Span) → Result (Option Span) Reply
 range_or (Some range) = Ok range
-range_or None = Err (refusal 400 BlobUploadInvalid)
+range_or None = Err range_invalid
 
 -- a text that has to be there, and a digest
 abbrev pub needed_digest : Option (List ℕ) → Result (List ℕ) Reply
 needed_digest (Some text) = digest_or (digest_named text)
-needed_digest None = Err (refusal 400 DigestInvalid)
+needed_digest None = Err (refusal DigestInvalid)
 
 -- more bytes of an upload
 abbrev pub patch_of : Option ℕ → List ℕ → Result (Option Span) Reply → Asked
@@ -174,7 +167,7 @@ IsReference text (references.Tag tag) = IsTag text × (tag ≡ text)
 
 -- a text that refers to none: it may be meant as a digest, and else it is refused so
 abbrev pub bad_reference : List ℕ → Reply → Reply
-bad_reference text other = if list_any (λ b. b == 58) text then refusal 400 DigestInvalid else other
+bad_reference text other = if list_any (λ b. b == 58) text then refusal DigestInvalid else other
 
 -- how a text refers to a manifest, or how it is refused
 abbrev pub Refers : List ℕ → Reply → Result Reference Reply → Type 0
@@ -190,13 +183,13 @@ on_reference call (Err reply) = Err reply
 abbrev pub Puts : List Field → List ℕ → Result Reference Reply → Asked → Type 0
 Puts fields body (Err reply) asked = asked ≡ Err reply
 Puts fields body (Ok reference) asked =
-    ((manifest_limit < length body) × (asked ≡ Err (refusal 413 SizeInvalid)))
+    ((manifest_limit < length body) × (asked ≡ Err (refusal SizeInvalid)))
     ⊎ ((length body ≤ manifest_limit) × (media : Option Media) × AreMedia fields body media × (asked ≡ Ok (calls.PutManifest reference media body)))
 
 -- `manifests/TEXT`, with `Content-Type`
 abbrev pub AsksManifest : Verb → List ℕ → List Field → List ℕ → Asked → Type 0
-AsksManifest Get text fields body asked = (reference : Result Reference Reply) × Refers text (refusal 404 ManifestUnknown) reference × (asked ≡ on_reference calls.GetManifest reference)
-AsksManifest Head text fields body asked = (reference : Result Reference Reply) × Refers text (refusal 404 ManifestUnknown) reference × (asked ≡ on_reference calls.HeadManifest reference)
-AsksManifest Delete text fields body asked = (reference : Result Reference Reply) × Refers text (refusal 404 ManifestUnknown) reference × (asked ≡ on_reference calls.DeleteManifest reference)
-AsksManifest Put text fields body asked = (reference : Result Reference Reply) × Refers text (refusal 400 ManifestInvalid) reference × Puts fields body reference asked
+AsksManifest Get text fields body asked = (reference : Result Reference Reply) × Refers text (refusal ManifestUnknown) reference × (asked ≡ on_reference calls.GetManifest reference)
+AsksManifest Head text fields body asked = (reference : Result Reference Reply) × Refers text (refusal ManifestUnknown) reference × (asked ≡ on_reference calls.HeadManifest reference)
+AsksManifest Delete text fields body asked = (reference : Result Reference Reply) × Refers text (refusal ManifestUnknown) reference × (asked ≡ on_reference calls.DeleteManifest reference)
+AsksManifest Put text fields body asked = (reference : Result Reference Reply) × Refers text (refusal ManifestInvalid) reference × Puts fields body reference asked
 AsksManifest _ text fields body asked = asked ≡ Err (not_allowed methods.Manifest)

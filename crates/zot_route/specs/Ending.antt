@@ -8,7 +8,7 @@ use Rattle.zot_route.specs.declared.form.Form.TheVariants as forms
 abbrev pub Read : Type 0
 Read = Form × List (List ℕ) × List ℕ
 
--- the forms whose last two parts these are, behind the parts of a name
+-- the forms whose last two parts these are, after the parts of a name
 unfoldable pub ends_in_two : List (List ℕ) → List ℕ → List ℕ → Option Read
 ends_in_two name kind text =
     if bytes_eq kind (codes "manifests") then Some (forms.Manifest, name, text)
@@ -29,7 +29,7 @@ or_three (Some read) more middle text = Some read
 or_three None [] middle text = None
 or_three None (kind ∷ more) middle text = ends_in_three (reverse more) kind middle text
 
--- what the parts behind `/v2/` are read as, the last one first
+-- what the parts after `/v2/` are read as, the last one first
 abbrev pub read_back : List (List ℕ) → Option Read
 read_back [] = Some (forms.Base, [], [])
 read_back (text ∷ []) = if bytes_eq text [] then Some (forms.Base, [], []) else None

@@ -25,7 +25,7 @@ parts_of target = decoded (before_first (λ b. b == question) target)
 unfoldable pub query_of : List ℕ → List ℕ
 query_of target = after_first (λ b. b == question) target
 
--- the last parts of a path of that form, behind the parts of a name, and the text that they have
+-- the last parts of a path of that form, after the parts of a name, and the text that they have
 abbrev pub IsEnding : Form → List (List ℕ) → List ℕ → List (List ℕ) → Type 0
 IsEnding forms.Base name text ending = (name ≡ []) × (text ≡ []) × ((ending ≡ []) ⊎ (ending ≡ [] ∷ []))
 IsEnding forms.Tags name text ending = (text ≡ []) × (ending ≡ codes "tags" ∷ codes "list" ∷ [])
@@ -35,7 +35,7 @@ IsEnding forms.Uploads name text ending = (text ≡ []) × ((ending ≡ codes "b
 IsEnding forms.Upload name text ending = (text ≢ []) × (ending ≡ codes "blobs" ∷ codes "uploads" ∷ text ∷ [])
 IsEnding forms.Blob name text ending = (text ≢ codes "uploads") × (ending ≡ codes "blobs" ∷ text ∷ [])
 
--- the parts are those of a name, and behind them the last ones of that form
+-- the parts are those of a name, and after them the last ones of that form
 pub record IsBehind (parts : List (List ℕ)) (form : Form) (name : List (List ℕ)) (text : List ℕ) : Type 0 where
   pub ending : List (List ℕ)
   pub ends : IsEnding form name text ending

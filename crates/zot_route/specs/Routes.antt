@@ -2,8 +2,8 @@
 use Rattle.std.specs.Prelude.{◌≡◌, ◌⊎◌, IsUtf8, ℕ, Bool, List, Option, Some, None, Ok, Err, codes}
 use Rattle.std.specs.List.{AllByRecursion, join_with_byte}
 use Rattle.zot_head.specs.declared.head.Head.{Head}
-use Rattle.zot_model.specs.declared.code.Code.TheVariants.{NameInvalid, Unsupported}
-use Rattle.zot_model.specs.Reply.{refusal}
+use Rattle.zot_model.specs.declared.code.Code.TheVariants.{NameInvalid}
+use Rattle.zot_model.specs.Refusals.{refusal, unsupported_path}
 use Rattle.zot_names.specs.Name.{IsName}
 use Rattle.zot_route.specs.declared.form.Form.{Form}
 use Rattle.zot_route.specs.declared.form.Form.TheVariants as forms
@@ -43,7 +43,7 @@ routed_as name hop (Err reply) = routes.Refused reply
 -- what becomes of a message with that path
 abbrev pub RoutesPath : Form → List (List ℕ) → List ℕ → Head → List ℕ → Routed → Type 0
 RoutesPath form parts text head body routed =
-    (((name : Option (List ℕ)) → ¬ Names form parts name) × (routed ≡ routes.Refused (refusal 400 NameInvalid)))
+    (((name : Option (List ℕ)) → ¬ Names form parts name) × (routed ≡ routes.Refused (refusal NameInvalid)))
     ⊎ ((name : Option (List ℕ)) × Names form parts name × (asked : Asked) × Asks form text head body asked × (routed ≡ routed_as name (is_hop head.fields) asked))
 
 -- the target has no path
@@ -53,6 +53,6 @@ HasNoPath target = (¬ AllByRecursion IsUtf8 (parts_of target)) ⊎ ((form : For
 -- what becomes of a message
 abbrev pub Routes : Head → List ℕ → Routed → Type 0
 Routes head body routed =
-    (HasNoPath head.target × (routed ≡ routes.Refused (refusal 404 Unsupported)))
+    (HasNoPath head.target × (routed ≡ routes.Refused unsupported_path))
     ⊎ (AllByRecursion IsUtf8 (parts_of head.target) × (form : Form) × (name : List (List ℕ)) × (text : List ℕ)
     × IsPath (parts_of head.target) form name text × RoutesPath form name text head body routed)

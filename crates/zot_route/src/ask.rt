@@ -5,6 +5,7 @@ ghost use Rattle.zot_route.specs.Routes.{Asks, in_query};
 ghost use Rattle.zot_route.specs.Told.{IfTold};
 ghost use Rattle.zot_route.specs.declared.form.Form.TheVariants as forms;
 
+use crate::asking::Asking;
 use crate::asks;
 use crate::form::Form;
 use crate::lines::range;
@@ -12,29 +13,29 @@ use crate::manifest::manifest;
 use crate::pairs::value;
 use crate::part::Part;
 use crate::stop::Stop;
-use crate::target::query;
-use crate::verb::Verb;
 use std::alloc::{AllocError, Global};
 use zot_digest::{Bytes, Words};
-use zot_head::Head;
 use zot_model::{Call, Reply};
 use zot_names::{NameError, RepoName, UploadId};
 
 /// What a path of that form asks, with the text of its last part.
-pub fn ask(alloc: Global, form: Form, text: &str, head: &Head, body: Bytes) -> Result<Call, Stop>
-    ensures { IfTold result (Asks form text.now head.now body) }
+pub fn ask(
+    alloc: Global,
+    form: Form,
+    text: &str,
+    asking: &Asking,
+    body: Bytes,
+) -> Result<Call, Stop>
+    ensures { IfTold result (Asks form text.now asking.now body) }
 {
     match form {
-        Form::Base => base(head),
-        Form::Tags => tags(alloc, head),
-        Form::Referrers => referrers(alloc, text, head),
-        Form::Manifest => {
-            let verb = Verb::read(head.method.as_str());
-            manifest(alloc, verb, text, head.fields.as_slice(), body)
-        }
-        Form::Uploads => post(alloc, head, body),
-        Form::Upload => upload(alloc, text, head, body),
-        Form::Blob => blob(text, head),
+        Form::Base => base(asking),
+        Form::Tags => tags(alloc, asking),
+        Form::Referrers => referrers(alloc, text, asking),
+        Form::Manifest => { manifest(alloc, asking.verb(), text, asking.fields(), body) }
+        Form::Uploads => post(alloc, asking, body),
+        Form::Upload => upload(alloc, text, asking, body),
+        Form::Blob => blob(text, asking),
     }
 }
 
@@ -49,44 +50,44 @@ fn told(asked: Result<Call, Reply>) -> Result<Call, Stop>
 }
 
 // What the base route is asked.
-fn base(head: &Head) -> Result<Call, Stop>
-    ensures { IfTold result (Asks forms.Base [] head.now []) }
+fn base(asking: &Asking) -> Result<Call, Stop>
+    ensures { IfTold result (Asks forms.Base [] asking.now []) }
 {
-    told(asks::base(Verb::read(head.method.as_str())))
+    told(asks::base(asking.verb()))
 }
 
 // What a blob is asked.
-fn blob(text: &str, head: &Head) -> Result<Call, Stop>
-    ensures { IfTold result (Asks forms.Blob text.now head.now []) }
+fn blob(text: &str, asking: &Asking) -> Result<Call, Stop>
+    ensures { IfTold result (Asks forms.Blob text.now asking.now []) }
 {
-    told(asks::blob(Verb::read(head.method.as_str()), text))
+    told(asks::blob(asking.verb(), text))
 }
 
-// The first value of a key in the head's query, as an owned text.
-fn words(alloc: Global, head: &Head, key: &str) -> Result<Option<Words>, AllocError>
-    ensures { IfOk result (λ words. words ≡ in_query head.now key.now) }
+// The first value of a key in the query, as an owned text.
+fn words(alloc: Global, asking: &Asking, key: &str) -> Result<Option<Words>, AllocError>
+    ensures { IfOk result (λ words. words ≡ in_query asking.now key.now) }
 {
-    match value(alloc, query(head.target.as_str()), key)? {
+    match value(alloc, asking.target().query(), key)? {
         Some(text) => Ok(Some(Words::new(text.into_string(alloc)?))),
         None => Ok(None),
     }
 }
 
 // What the tags are asked.
-fn tags(alloc: Global, head: &Head) -> Result<Call, Stop>
-    ensures { IfTold result (Asks forms.Tags [] head.now []) }
+fn tags(alloc: Global, asking: &Asking) -> Result<Call, Stop>
+    ensures { IfTold result (Asks forms.Tags [] asking.now []) }
 {
-    let n = value(alloc, query(head.target.as_str()), "n")?;
-    let last = words(alloc, head, "last")?;
-    told(asks::tags(Verb::read(head.method.as_str()), n, last))
+    let n = value(alloc, asking.target().query(), "n")?;
+    let last = words(alloc, asking, "last")?;
+    told(asks::tags(asking.verb(), n, last))
 }
 
 // What the referrers of a digest are asked.
-fn referrers(alloc: Global, text: &str, head: &Head) -> Result<Call, Stop>
-    ensures { IfTold result (Asks forms.Referrers text.now head.now []) }
+fn referrers(alloc: Global, text: &str, asking: &Asking) -> Result<Call, Stop>
+    ensures { IfTold result (Asks forms.Referrers text.now asking.now []) }
 {
-    let filter = words(alloc, head, "artifactType")?;
-    told(asks::referrers(Verb::read(head.method.as_str()), text, filter))
+    let filter = words(alloc, asking, "artifactType")?;
+    told(asks::referrers(asking.verb(), text, filter))
 }
 
 // The name that a text is, where it is there and is one.
@@ -104,15 +105,15 @@ fn from_name(alloc: Global, text: Option<Part>) -> Result<Option<RepoName>, Allo
 }
 
 // What the uploads are asked.
-fn post(alloc: Global, head: &Head, body: Bytes) -> Result<Call, Stop>
-    ensures { IfTold result (Asks forms.Uploads [] head.now body) }
+fn post(alloc: Global, asking: &Asking, body: Bytes) -> Result<Call, Stop>
+    ensures { IfTold result (Asks forms.Uploads [] asking.now body) }
 {
-    let query = query(head.target.as_str());
+    let query = asking.target().query();
     let mount = value(alloc, query, "mount")?;
     let from = value(alloc, query, "from")?;
     let name = from_name(alloc, from)?;
     let digest = value(alloc, query, "digest")?;
-    told(asks::post(Verb::read(head.method.as_str()), mount, name, digest, body))
+    told(asks::post(asking.verb(), mount, name, digest, body))
 }
 
 // The upload whose id a text is.
@@ -123,14 +124,14 @@ fn id(text: &str) -> Option<UploadId>
 }
 
 // What an upload is asked.
-fn upload(alloc: Global, text: &str, head: &Head, body: Bytes) -> Result<Call, Stop>
-    ensures { IfTold result (Asks forms.Upload text.now head.now body) }
+fn upload(alloc: Global, text: &str, asking: &Asking, body: Bytes) -> Result<Call, Stop>
+    ensures { IfTold result (Asks forms.Upload text.now asking.now body) }
 {
-    let digest = value(alloc, query(head.target.as_str()), "digest")?;
+    let digest = value(alloc, asking.target().query(), "digest")?;
     told(asks::upload(
-        Verb::read(head.method.as_str()),
+        asking.verb(),
         id(text),
-        range(head.fields.as_slice()),
+        range(asking.fields()),
         digest,
         body,
     ))

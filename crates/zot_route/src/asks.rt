@@ -1,25 +1,14 @@
 //! What a path of each form asks with each method, where that takes no memory.
 ghost use Rattle.std.specs.Prelude.{◌≡◌};
 ghost use Rattle.zot_digest.specs.Digest.{digest_named};
-ghost use Rattle.zot_route.specs.Asked.{asks_base, asks_blob, asks_post, asks_referrers, asks_tags, asks_upload, digest_or, mount_of, needed_digest as needed_digest_of, not_allowed as not_allowed_of, number_or, optional_digest as optional_digest_of, range_or};
+ghost use Rattle.zot_route.specs.Asked.{asks_base, asks_blob, asks_post, asks_referrers, asks_tags, asks_upload, digest_or, mount_of, needed_digest as needed_digest_of, number_or, optional_digest as optional_digest_of, range_or};
 
 use crate::part::Part;
 use crate::verb::Verb;
 use zot_digest::{Bytes, Digest, Words, parse_digest};
 use zot_head::length_of;
-use zot_model::{Call, Code, Detail, Methods, Mount, Reply, Span};
+use zot_model::{Call, Methods, Mount, Reply, Span};
 use zot_names::{RepoName, UploadId};
-
-/// The refusal of a method that the path doesn't have (RFC 9110, section 15.5.6).
-pub fn not_allowed(which: Methods) -> Reply
-    ensures { result ≡ not_allowed_of which }
-{
-    Reply::Refused {
-        status: 405,
-        code: Code::Unsupported,
-        detail: Detail::Allow(which),
-    }
-}
 
 // The digest that a text is.
 fn digest(text: &str) -> Result<Digest, Reply>
@@ -27,7 +16,7 @@ fn digest(text: &str) -> Result<Digest, Reply>
 {
     match parse_digest(text) {
         Ok(digest) => Ok(digest),
-        Err(_) => Err(Reply::refused(400, Code::DigestInvalid)),
+        Err(_) => Err(Reply::digest_invalid()),
     }
 }
 
@@ -38,7 +27,7 @@ pub fn base(verb: Verb) -> Result<Call, Reply>
     match verb {
         Verb::Get | Verb::Head => Ok(Call::Base),
         Verb::Put | Verb::Post | Verb::Patch | Verb::Delete | Verb::Other => {
-            Err(not_allowed(Methods::Read))
+            Err(Reply::not_allowed(Methods::Read))
         }
     }
 }
@@ -51,7 +40,9 @@ pub fn blob(verb: Verb, text: &str) -> Result<Call, Reply>
         Verb::Get => Ok(Call::GetBlob(digest(text)?)),
         Verb::Head => Ok(Call::HeadBlob(digest(text)?)),
         Verb::Delete => Ok(Call::DeleteBlob(digest(text)?)),
-        Verb::Put | Verb::Post | Verb::Patch | Verb::Other => Err(not_allowed(Methods::Blob)),
+        Verb::Put | Verb::Post | Verb::Patch | Verb::Other => Err(Reply::not_allowed(
+            Methods::Blob,
+        )),
     }
 }
 
@@ -65,7 +56,7 @@ pub fn referrers(verb: Verb, text: &str, filter: Option<Words>) -> Result<Call, 
             filter,
         }),
         Verb::Head | Verb::Put | Verb::Post | Verb::Patch | Verb::Delete | Verb::Other => {
-            Err(not_allowed(Methods::List))
+            Err(Reply::not_allowed(Methods::List))
         }
     }
 }
@@ -77,7 +68,7 @@ fn number(text: Option<Part>) -> Result<Option<u64>, Reply>
     match text {
         Some(text) => match length_of(text.as_str().as_bytes()) {
             Some(n) => Ok(Some(n)),
-            None => Err(Reply::refused(400, Code::Unsupported)),
+            None => Err(Reply::unsupported_query()),
         },
         None => Ok(None),
     }
@@ -93,7 +84,7 @@ pub fn tags(verb: Verb, n: Option<Part>, last: Option<Words>) -> Result<Call, Re
             last,
         }),
         Verb::Head | Verb::Put | Verb::Post | Verb::Patch | Verb::Delete | Verb::Other => {
-            Err(not_allowed(Methods::List))
+            Err(Reply::not_allowed(Methods::List))
         }
     }
 }
@@ -139,7 +130,7 @@ pub fn post(
             })
         }
         Verb::Get | Verb::Head | Verb::Put | Verb::Patch | Verb::Delete | Verb::Other => {
-            Err(not_allowed(Methods::Begin))
+            Err(Reply::not_allowed(Methods::Begin))
         }
     }
 }
@@ -150,7 +141,7 @@ fn range_of(range: Option<Option<Span>>) -> Result<Option<Span>, Reply>
 {
     match range {
         Some(range) => Ok(range),
-        None => Err(Reply::refused(400, Code::BlobUploadInvalid)),
+        None => Err(Reply::range_invalid()),
     }
 }
 
@@ -160,7 +151,7 @@ fn needed_digest(text: Option<Part>) -> Result<Digest, Reply>
 {
     match text {
         Some(text) => digest(text.as_str()),
-        None => Err(Reply::refused(400, Code::DigestInvalid)),
+        None => Err(Reply::digest_invalid()),
     }
 }
 
@@ -190,6 +181,8 @@ pub fn upload(
                 body,
             })
         }
-        Verb::Head | Verb::Post | Verb::Delete | Verb::Other => Err(not_allowed(Methods::Upload)),
+        Verb::Head | Verb::Post | Verb::Delete | Verb::Other => Err(Reply::not_allowed(
+            Methods::Upload,
+        )),
     }
 }

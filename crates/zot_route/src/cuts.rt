@@ -2,7 +2,7 @@
 ghost use Rattle.std.specs.Prelude.{◌≡◌, ◌==◌};
 ghost use Rattle.std.specs.List.{after_first, before_first};
 
-/// The bytes before the first one of this value, and those behind it; all, and none, where there is no such byte. Takes no memory.
+/// The bytes before the first one of this value, and those after it; all, and none, where there is no such byte. Takes no memory.
 pub fn cut(bytes: &[u8], at: u8) -> (&[u8], &[u8])
     ensures before { result.0.now ≡ before_first (λ b. b == at) bytes.now }
     ensures after { result.1.now ≡ after_first (λ b. b == at) bytes.now }

@@ -1,6 +1,6 @@
 //! The forms of a path.
 
-/// The forms of a path behind `/v2/` (OCI Distribution Specification, "Endpoints").
+/// The forms of a path after `/v2/` (OCI Distribution Specification, "Endpoints").
 #[derive(Clone, Copy, Debug, PartialEq, Eq)]
 pub enum Form {
     /// Nothing.

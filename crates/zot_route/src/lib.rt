@@ -2,6 +2,7 @@
 #![tactic(auto)]
 
 mod ask;
+mod asking;
 mod asks;
 mod cuts;
 mod form;
@@ -17,10 +18,12 @@ mod reference;
 mod routed;
 mod stop;
 mod target;
-#[cfg(test)]
-mod tests;
 mod verb;
 
+pub use crate::form::Form;
 pub use crate::laws::{outcome_is_one, outcomes_are_sound, path_is_one};
 pub use crate::message::route;
+pub use crate::part::Part;
+pub use crate::path::Path;
 pub use crate::routed::Routed;
+pub use crate::target::Target;

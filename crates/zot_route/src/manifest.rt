@@ -1,11 +1,10 @@
 //! What a manifest is asked.
 ghost use Rattle.std.specs.Prelude.{◌≡◌, Ok};
 ghost use Rattle.zot_model.specs.declared.code.Code.TheVariants.{ManifestInvalid, ManifestUnknown};
-ghost use Rattle.zot_model.specs.Reply.{refusal};
+ghost use Rattle.zot_model.specs.Refusals.{refusal};
 ghost use Rattle.zot_route.specs.Asked.{AsksManifest, Puts, Refers};
 ghost use Rattle.zot_route.specs.Told.{IfTold};
 
-use crate::asks::not_allowed;
 use crate::lines::media;
 use crate::reference::reference;
 use crate::stop::Stop;
@@ -14,10 +13,7 @@ use std::alloc::Global;
 use zot_digest::Bytes;
 use zot_head::Field;
 use zot_media::Reference;
-use zot_model::{Call, Code, Methods, Reply};
-
-/// The most bytes of a manifest.
-const LIMIT: usize = 4_194_304;
+use zot_model::{Call, MANIFEST_LIMIT, Methods, Reply};
 
 /// What a manifest is asked, by the text of its reference, the fields and the body.
 pub fn manifest(
@@ -38,23 +34,23 @@ pub fn manifest(
             put(alloc, reference, fields, body)
         }
         Verb::Post | Verb::Patch | Verb::Other => {
-            Err(Stop::Refused(not_allowed(Methods::Manifest)))
+            Err(Stop::Refused(Reply::not_allowed(Methods::Manifest)))
         }
     }
 }
 
 // The reference to a manifest that may be there.
 fn known(alloc: Global, text: &str) -> Result<Reference, Stop>
-    ensures { IfTold result (Refers text.now (refusal 404 ManifestUnknown)) }
+    ensures { IfTold result (Refers text.now (refusal ManifestUnknown)) }
 {
-    reference(alloc, text, Reply::refused(404, Code::ManifestUnknown))
+    reference(alloc, text, Reply::manifest_unknown())
 }
 
 // The reference of a manifest to be stored.
 fn wanted(alloc: Global, text: &str) -> Result<Reference, Stop>
-    ensures { IfTold result (Refers text.now (refusal 400 ManifestInvalid)) }
+    ensures { IfTold result (Refers text.now (refusal ManifestInvalid)) }
 {
-    reference(alloc, text, Reply::refused(400, Code::ManifestInvalid))
+    reference(alloc, text, Reply::manifest_invalid())
 }
 
 // A manifest to be stored, with its media.
@@ -62,8 +58,8 @@ fn wanted(alloc: Global, text: &str) -> Result<Reference, Stop>
 fn put(alloc: Global, reference: Reference, fields: &[Field], body: Bytes) -> Result<Call, Stop>
     ensures { IfTold result (Puts fields.now body (Ok reference)) }
 {
-    if body.as_slice().len() > LIMIT {
-        return Err(Stop::Refused(Reply::refused(413, Code::SizeInvalid)));
+    if body.as_slice().len() > MANIFEST_LIMIT {
+        return Err(Stop::Refused(Reply::size_invalid()));
     }
     let media = media(alloc, fields, body.as_slice())?;
     Ok(Call::PutManifest {

@@ -65,7 +65,7 @@ impl<'a> Path<'a> {
     }
 }
 
-// The parts behind `/v2/`.
+// The parts after `/v2/`.
 fn behind_version<'a>(parts: &'a [Part<'a>]) -> Option<&'a [Part<'a>]>
     ensures { MatchOption result ((behind : List (List ℕ)) → parts.now ≢ [] ∷ codes "v2" ∷ behind)
         (λ behind. parts.now ≡ [] ∷ codes "v2" ∷ behind.now) }
@@ -83,7 +83,7 @@ fn behind_version<'a>(parts: &'a [Part<'a>]) -> Option<&'a [Part<'a>]>
     }
 }
 
-// The path of these parts behind `/v2/`.
+// The path of these parts after `/v2/`.
 fn read_behind<'a>(parts: &'a [Part<'a>]) -> Option<Path<'a>>
     ensures { result ≡ read_back (reverse parts.now) }
 {
@@ -110,7 +110,7 @@ fn read_last<'a>(more: &'a [Part<'a>], kind: &str, text: &'a str) -> Option<Path
     }
 }
 
-// The forms whose last two parts these are, behind the parts of a name.
+// The forms whose last two parts these are, after the parts of a name.
 #[tactic(auto, unfolding(crate::specs::Ending::ends_in_two))]
 fn ends_in_two<'a>(name: &'a [Part<'a>], kind: &str, text: &'a str) -> Option<Path<'a>>
     ensures { result ≡ ends_in_two_of name.now kind.now text.now }

@@ -8,7 +8,7 @@ use crate::stop::Stop;
 use std::alloc::Global;
 use zot_digest::parse_digest;
 use zot_media::Reference;
-use zot_model::{Code, Reply};
+use zot_model::Reply;
 use zot_names::{NameError, Tag};
 
 /// How a text refers to a manifest; where it doesn't, it is refused as no digest if it has a `:`, and else as the caller says.
@@ -30,7 +30,7 @@ fn bad_reference(text: &str, other: Reply) -> Reply
     ensures { result ≡ bad_reference_of text.now other }
 {
     if has_colon(text.as_bytes()) {
-        Reply::refused(400, Code::DigestInvalid)
+        Reply::digest_invalid()
     } else {
         other
     }

@@ -1,39 +1,56 @@
-//! The parts of a target.
+//! The target of a request.
 ghost use Rattle.std.specs.Prelude.{◌≡◌, ◌==◌, IfOk, IsUtf8, MatchOption};
-ghost use Rattle.std.specs.List.{AllByRecursion, before_first};
-ghost use Rattle.zot_route.specs.Path.{decoded, parts_of, query_of, question};
+ghost use Rattle.std.specs.List.{AllByRecursion};
+ghost use Rattle.zot_route.specs.Path.{decoded, parts_of, query_of};
 
+use crate::cuts::cut;
 use crate::part::Part;
 use std::alloc::{AllocError, Global};
+use std::marker::Model;
 
-/// The query of a target, which is empty where there is none (RFC 3986, section 3.4). Takes no memory.
-#[tactic(auto, unfolding(crate::specs::Path::query_of))]
-pub fn query(target: &str) -> &[u8]
-    ensures { result.now ≡ query_of target.now }
-{
-    match target.split_once('?') {
-        Some((_, query)) => query.as_bytes(),
-        None => b"",
-    }
+/// The target of a request, cut into its path and its query (RFC 3986, section 3.4). Contracts see its text.
+#[derive(Drop)]
+pub struct Target<'a> {
+    text: &'a str,
+    path: &'a [u8],
+    query: &'a [u8],
 }
 
-// The path of a target, still encoded.
-fn path(target: &str) -> &[u8]
-    ensures { result.now ≡ before_first (λ b. b == question) target.now }
-{
-    match target.split_once('?') {
-        Some((path, _)) => path.as_bytes(),
-        None => target.as_bytes(),
-    }
+impl<'a> Model for Target<'a> {
+    ghost use Rattle.std.specs.Prelude.{◌≡◌, ℕ, List};
+    ghost use Rattle.zot_route.specs.Path.{decoded, parts_of, query_of};
+
+    ghost Value = { List ℕ };
+
+    ghost view = { λ t. t.text.now };
+
+    ghost invariant = { λ t. (decoded t.path.now ≡ parts_of t.text.now) × (t.query.now ≡ query_of t.text.now) };
 }
 
-/// The parts of a target's path between its slashes (RFC 3986, section 3.3), decoded; none where one of them isn't UTF-8. It fails only where memory does.
-#[tactic(auto, unfolding(crate::specs::Path::parts_of))]
-pub fn parts<'a>(alloc: Global, target: &'a str) -> Result<Option<Vec<Part<'a>>>, AllocError>
-    ensures { IfOk result (λ parts. MatchOption parts (¬ AllByRecursion IsUtf8 (parts_of target.now))
-        (λ list. (list.items ≡ parts_of target.now) × AllByRecursion IsUtf8 (parts_of target.now))) }
-{
-    read_parts(alloc, path(target))
+impl<'a> Target<'a> {
+    /// The target of this text. Takes no memory.
+    #[tactic(auto, unfolding(crate::specs::Path::parts_of, crate::specs::Path::query_of))]
+    pub fn read(text: &'a str) -> Self
+        ensures { result ≡ text.now }
+    {
+        let (path, query) = cut(text.as_bytes(), b'?');
+        Target { text, path, query }
+    }
+
+    /// The query, which is empty where there is none. Takes no memory.
+    pub fn query(&self) -> &'a [u8]
+        ensures { result.now ≡ query_of self.now }
+    {
+        self.query
+    }
+
+    /// The parts of the path between its slashes (RFC 3986, section 3.3), decoded; none where one of them isn't UTF-8. It fails only where memory does.
+    pub fn parts(&self, alloc: Global) -> Result<Option<Vec<Part<'a>>>, AllocError>
+        ensures { IfOk result (λ parts. MatchOption parts (¬ AllByRecursion IsUtf8 (parts_of self.now))
+            (λ list. (list.items ≡ parts_of self.now) × AllByRecursion IsUtf8 (parts_of self.now))) }
+    {
+        read_parts(alloc, self.path)
+    }
 }
 
 // The parts of a path, decoded.

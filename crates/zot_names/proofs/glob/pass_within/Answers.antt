@@ -5,7 +5,7 @@ use Rattle.zot_names.specs.declared.piece.Piece.{Piece}
 use Rattle.zot_names.specs.declared.piece.Piece.TheVariants.{Within}
 use Rattle.zot_names.proofs.glob.pass_within.Goals as goal
 
--- behind a star less is left
+-- after a star less is left
 shorter : (star : Piece) (glob text behind rest : List ℕ) → IsBehindStar star glob text behind rest → length behind + length rest < length glob + length text
 shorter star glob text behind rest h = let cut = length-append h.bytes rest in let same = ap length h.text_is in omega (arith, h.shorter)
 

@@ -4,7 +4,7 @@ use Rattle.std.specs.List.{AllPass}
 use Rattle.zot_names.specs.Tag.{IsTag, is_tag_byte, is_word_byte}
 use Rattle.zot_names.proofs.tag.is_tag.Goals as goal
 
--- a text that begins with a tag's first byte is a tag where the others may stand behind it
+-- a text that begins with a tag's first byte is a tag where the others may stand after it
 tag_test : (r : Bool) (text more : List ℕ) (first : ℕ) → text ≡ first ∷ more → is_word_byte first ≡ true
     → IsTrue r ↔ (AllPass is_tag_byte more × (length more ≤ 127)) → IsTrue r ↔ IsTag text
 tag_test r text more first e begins test = (

@@ -1,4 +1,0 @@
-//! Worked messages.
-
-mod messages;
-mod paths;
