@@ -26,7 +26,7 @@ use Rattle.zot_route.specs.Asked.{IsFrom, IsId, IsReference, asks_post, digest_o
 use Rattle.zot_route.specs.declared.verb.Verb.TheVariants.{Post}
 use Rattle.zot_route.specs.Lines.{AreMedia, AreMediaBy, is_hop, is_there, range_by, range_of, span_by, span_of, type_of}
 use Rattle.zot_spell.specs.Wire.{dash, hop_value, id_text, media_value, mount_from, reference_text, span_text}
-use Rattle.zot_delivery.specs.Values.{IsMount, IsRef, IsWord}
+use Rattle.zot_model.specs.Values.{IsMount, IsRef, IsWord}
 use Rattle.zot_delivery.proofs.ByteLemmas.{decimal_no_dash, length_of-decimal}
 use Rattle.zot_delivery.proofs.WrittenLemmas.{start_short}
 

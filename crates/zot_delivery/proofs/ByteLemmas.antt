@@ -45,25 +45,6 @@ pub record IsPartByte (c : ℕ) : Type 0 where
 abbrev pub is_part_byte : ℕ → Bool
 is_part_byte c = is_tag_byte c || (c == 58)
 
-part_byte : (c : ℕ) → is_part_byte c ≡ true → IsPartByte c
-part_byte c e =
-    record {
-      path = record {
-        visible = record { above = grind (arith, nat_tests); below = grind (arith, nat_tests) };
-        question = λ q. grind (arith, nat_tests);
-        percent = λ q. grind (arith, nat_tests);
-      };
-      slash = λ q. grind (arith, nat_tests);
-    }
-
-name_byte : (c : ℕ) → is_name_byte c ≡ true → IsPathByte c
-name_byte c e =
-    record {
-      visible = record { above = grind (arith, nat_tests); below = grind (arith, nat_tests) };
-      question = λ q. grind (arith, nat_tests);
-      percent = λ q. grind (arith, nat_tests);
-    }
-
 -- the same, or a slash
 abbrev pub is_path_byte : ℕ → Bool
 is_path_byte c = is_part_byte c || (c == 47)
@@ -75,6 +56,12 @@ path_byte c e =
       question = λ q. grind (arith, nat_tests);
       percent = λ q. grind (arith, nat_tests);
     }
+
+part_byte : (c : ℕ) → is_part_byte c ≡ true → IsPartByte c
+part_byte c e = record { path = path_byte c (or_left (is_part_byte c) (c == 47) e); slash = λ q. grind (arith, nat_tests) }
+
+name_byte : (c : ℕ) → is_name_byte c ≡ true → IsPathByte c
+name_byte c e = path_byte c (grind (arith, nat_tests))
 
 -- ---- texts of parts
 

@@ -23,7 +23,7 @@ use Rattle.zot_route.specs.Path.{IsPath, parts_of as parts_in, query_of, slash}
 use Rattle.zot_route.specs.Query.{first_of, value_of}
 use Rattle.zot_route.specs.Routes.{Asks, Names, Routes, in_query}
 use Rattle.zot_spell.specs.Wire.{body_of, form_of, id_text, mount_from, parts_of, path_of, reference_text, target_text}
-use Rattle.zot_delivery.specs.Values.{HasValues, IsRef}
+use Rattle.zot_model.specs.Values.{HasValues, IsRef}
 use Rattle.zot_delivery.proofs.AskLemmas.{are_media, digest_asked, hop_read, id_named, id_some, not_uploads, number_read, post_asked, range_read, refers}
 use Rattle.zot_delivery.proofs.ByteLemmas.{digest_part}
 use Rattle.zot_delivery.proofs.FieldLemmas.{chosen}

@@ -8,7 +8,7 @@ use Rattle.zot_route.specs.declared.routed.Routed.TheVariants as routes
 use Rattle.zot_route.specs.Routes.{Routes}
 use Rattle.zot_spell.specs.Wire.{body_of, head_of, request_head, with_hop}
 use Rattle.zot_delivery.specs.Delivery.{IsDelivered}
-use Rattle.zot_delivery.specs.Values.{HasValues}
+use Rattle.zot_model.specs.Values.{HasValues}
 use Rattle.zot_delivery.proofs.DeliveryLemmas.{delivered}
 
 module _ (request : Request) (hop : Bool) (values : HasValues request) (valid : IsValid request) where

@@ -13,7 +13,7 @@ use Rattle.zot_route.specs.Routes.{Routes}
 use Rattle.zot_route.proofs.OneLemmas.{routes_one}
 use Rattle.zot_spell.specs.Wire.{body_of, head_of, request_bytes}
 use Rattle.zot_delivery.specs.Delivery.{IsDelivered}
-use Rattle.zot_delivery.specs.Values.{HasValues}
+use Rattle.zot_model.specs.Values.{HasValues}
 use Rattle.zot_delivery.proofs.CallLemmas.{request_asked}
 use Rattle.zot_delivery.proofs.HeadLemmas.{body_framed, bytes_apart, ends_at, head_in_front, head_is, is_head, read_of}
 

@@ -21,7 +21,7 @@ use Rattle.zot_model.specs.declared.request.Request.{Request}
 use Rattle.zot_model.specs.Valid.{IsValid}
 use Rattle.zot_spell.specs.Heads.{name_text}
 use Rattle.zot_spell.specs.Wire.{body_of, hop_value, head_of, parts_of, present, request_bytes, request_head, request_line, span_text, target_text}
-use Rattle.zot_delivery.specs.Values.{HasValues}
+use Rattle.zot_model.specs.Values.{HasValues}
 use Rattle.zot_delivery.proofs.ByteLemmas.{IsVisible, visible_text}
 use Rattle.zot_delivery.proofs.FieldLemmas.{expects_none, few_lines, framed_by, framing_for, line_of, lines_are, lines_print, lines_read, none_passes, read_field, size_value, values_chosen}
 use Rattle.zot_delivery.proofs.WrittenLemmas.{body_short, fields_in, fields_written, parts_written, target_visible}

@@ -19,8 +19,8 @@ use Rattle.zot_model.specs.Valid.{IsShort, IsSpan, IsValid, IsValidCall, body_li
 use Rattle.zot_names.specs.Name.{IsName}
 use Rattle.zot_spell.specs.declared.field_name.FieldName.{FieldName}
 use Rattle.zot_spell.specs.Heads.{name_text}
-use Rattle.zot_spell.specs.Wire.{CallParts, body_of, dash, fields_of, form_of, hop_value, id_text, media_value, mount_from, parts_of, path_of, plain_parts, present, query_text, reference_text, span_text, target_text}
-use Rattle.zot_delivery.specs.Values.{HasCallValues, HasValues, IsMount, IsRef}
+use Rattle.zot_spell.specs.Wire.{CallParts, body_of, dash, fields_of, form_of, hop_value, id_text, media_value, mount_from, parts_of, path_of, present, query_text, reference_text, span_text, target_text}
+use Rattle.zot_model.specs.Values.{HasCallValues, HasValues, IsMount, IsRef}
 use Rattle.zot_delivery.proofs.ByteLemmas.{IsPartByte, IsPathByte, IsVisible, decimal_part, digest_part, is_part_byte, is_path_byte, literal_part, literal_path, name_path, part_path, part_text, path_is_text, path_visible, tag_part, upload_part}
 use Rattle.zot_delivery.proofs.FieldLemmas.{IsWritten, literal_visible, size_value}
 use Rattle.zot_delivery.proofs.QueryLemmas.{IsTextPair, form_visible, query_visible}
@@ -110,86 +110,47 @@ token text some e = (some, AllPass-from_list_all is_token_byte text e)
 ending : (front text : List ℕ) → list_all is_path_byte front ≡ true → All IsPartByte text → All IsPathByte (front ++ text)
 ending front text e all = All-append IsPathByte front text (literal_path front e) (part_path text all)
 
--- a call that has a path alone
-plain : (method path : List ℕ) → IsToken method → All IsPathByte path → AreWritten (plain_parts method path)
-plain method path token bytes = record { method = token; path = bytes; query = tt; media = tt; range = tt; body = tt }
-
 manifest_fits : (n : ℕ) → n ≤ manifest_limit → n ≤ body_limit
 unfolding manifest_limit body_limit
 manifest_fits n h = omega arith
 
-get : IsToken (codes "GET")
-unfolding is_token_byte
-get = token (codes "GET") (omega arith) refl
+blob : (digest : List ℕ) → IsDigest digest → All IsPathByte (codes "/blobs/" ++ digest_text digest)
+blob digest is = ending (codes "/blobs/") (digest_text digest) refl (digest_part digest is)
+
+upload : (id : Option ℕ) → All IsPathByte (codes "/blobs/uploads/" ++ id_text id)
+upload id = ending (codes "/blobs/uploads/") (id_text id) refl (id_part id)
+
+manifest : (reference : Reference) → IsRef reference → All IsPathByte (codes "/manifests/" ++ reference_text reference)
+manifest reference is = ending (codes "/manifests/") (reference_text reference) refl (reference_part reference is)
+
+parts_are : (parts : CallParts) → IsToken parts.method → All IsPathByte parts.path → AllByRecursion IsTextPair parts.query → IfSome parts.media (λ text. All IsVisible text)
+    → IfSome parts.range IsSpan → IfSome parts.body (λ body. length body ≤ body_limit) → AreWritten parts
+parts_are parts method path query media range body = record { method = method; path = path; query = query; media = media; range = range; body = body }
 
 pub call_written : (call : Call) → HasCallValues call → IsValidCall call → AreWritten (parts_of call)
 unfolding parts_of is_token_byte
-call_written calls.Base h valid = plain (codes "GET") [] get (All-nil IsPathByte)
-call_written (calls.GetBlob digest) h valid = plain (codes "GET") (codes "/blobs/" ++ digest_text digest) get (ending (codes "/blobs/") (digest_text digest) refl (digest_part digest h))
-call_written (calls.HeadBlob digest) h valid =
-    plain (codes "HEAD") (codes "/blobs/" ++ digest_text digest) (token (codes "HEAD") (omega arith) refl) (ending (codes "/blobs/") (digest_text digest) refl (digest_part digest h))
-call_written (calls.DeleteBlob digest) h valid =
-    plain (codes "DELETE") (codes "/blobs/" ++ digest_text digest) (token (codes "DELETE") (omega arith) refl) (ending (codes "/blobs/") (digest_text digest) refl (digest_part digest h))
-call_written (calls.Post mount digest body) h valid = record {
-  method = token (codes "POST") (omega arith) refl;
-  path = literal_path (codes "/blobs/uploads/") refl;
-  query = (
-    (key_text (codes "mount") refl, mount_text mount h.0),
-    ((key_text (codes "from") refl, from_text mount h.0), ((key_text (codes "digest") refl, some_digest_text digest h.1), tt)),
-  );
-  media = tt;
-  range = tt;
-  body = valid;
-}
-call_written (calls.Patch id range body) h valid = record {
-  method = token (codes "PATCH") (omega arith) refl;
-  path = ending (codes "/blobs/uploads/") (id_text id) refl (id_part id);
-  query = tt;
-  media = tt;
-  range = valid.0;
-  body = valid.1;
-}
-call_written (calls.Finish id range digest body) h valid = record {
-  method = token (codes "PUT") (omega arith) refl;
-  path = ending (codes "/blobs/uploads/") (id_text id) refl (id_part id);
-  query = ((key_text (codes "digest") refl, digest_is_text digest h.1), tt);
-  media = tt;
-  range = valid.0;
-  body = valid.1;
-}
-call_written (calls.UploadState id) h valid = plain (codes "GET") (codes "/blobs/uploads/" ++ id_text id) get (ending (codes "/blobs/uploads/") (id_text id) refl (id_part id))
-call_written (calls.PutManifest reference media body) h valid = record {
-  method = token (codes "PUT") (omega arith) refl;
-  path = ending (codes "/manifests/") (reference_text reference) refl (reference_part reference h);
-  query = tt;
-  media = media_seen media;
-  range = tt;
-  body = manifest_fits (length body) valid;
-}
-call_written (calls.GetManifest reference) h valid =
-    plain (codes "GET") (codes "/manifests/" ++ reference_text reference) get (ending (codes "/manifests/") (reference_text reference) refl (reference_part reference h))
-call_written (calls.HeadManifest reference) h valid =
-    plain (codes "HEAD") (codes "/manifests/" ++ reference_text reference) (token (codes "HEAD") (omega arith) refl)
-    (ending (codes "/manifests/") (reference_text reference) refl (reference_part reference h))
-call_written (calls.DeleteManifest reference) h valid =
-    plain (codes "DELETE") (codes "/manifests/" ++ reference_text reference) (token (codes "DELETE") (omega arith) refl)
-    (ending (codes "/manifests/") (reference_text reference) refl (reference_part reference h))
-call_written (calls.Tags n last) h valid = record {
-  method = get;
-  path = literal_path (codes "/tags/list") refl;
-  query = ((key_text (codes "n") refl, number_text n valid), ((key_text (codes "last") refl, h), tt));
-  media = tt;
-  range = tt;
-  body = tt;
-}
-call_written (calls.Referrers digest filter) h valid = record {
-  method = get;
-  path = ending (codes "/referrers/") (digest_text digest) refl (digest_part digest h.0);
-  query = ((key_text (codes "artifactType") refl, h.1), tt);
-  media = tt;
-  range = tt;
-  body = tt;
-}
+call_written calls.Base h valid = parts_are (parts_of calls.Base) (token (codes "GET") (omega arith) refl) (All-nil IsPathByte) tt tt tt tt
+call_written (calls.GetBlob digest) h valid = parts_are (parts_of (calls.GetBlob digest)) (token (codes "GET") (omega arith) refl) (blob digest h) tt tt tt tt
+call_written (calls.HeadBlob digest) h valid = parts_are (parts_of (calls.HeadBlob digest)) (token (codes "HEAD") (omega arith) refl) (blob digest h) tt tt tt tt
+call_written (calls.DeleteBlob digest) h valid = parts_are (parts_of (calls.DeleteBlob digest)) (token (codes "DELETE") (omega arith) refl) (blob digest h) tt tt tt tt
+call_written (calls.Post mount digest body) h valid =
+    parts_are (parts_of (calls.Post mount digest body)) (token (codes "POST") (omega arith) refl) (literal_path (codes "/blobs/uploads/") refl)
+    ((key_text (codes "mount") refl, mount_text mount h.0), ((key_text (codes "from") refl, from_text mount h.0), ((key_text (codes "digest") refl, some_digest_text digest h.1), tt))) tt tt valid
+call_written (calls.Patch id range body) h valid = parts_are (parts_of (calls.Patch id range body)) (token (codes "PATCH") (omega arith) refl) (upload id) tt tt valid.0 valid.1
+call_written (calls.Finish id range digest body) h valid =
+    parts_are (parts_of (calls.Finish id range digest body)) (token (codes "PUT") (omega arith) refl) (upload id) ((key_text (codes "digest") refl, digest_is_text digest h.1), tt) tt valid.0 valid.1
+call_written (calls.UploadState id) h valid = parts_are (parts_of (calls.UploadState id)) (token (codes "GET") (omega arith) refl) (upload id) tt tt tt tt
+call_written (calls.PutManifest reference media body) h valid =
+    parts_are (parts_of (calls.PutManifest reference media body)) (token (codes "PUT") (omega arith) refl) (manifest reference h) tt (media_seen media) tt (manifest_fits (length body) valid)
+call_written (calls.GetManifest reference) h valid = parts_are (parts_of (calls.GetManifest reference)) (token (codes "GET") (omega arith) refl) (manifest reference h) tt tt tt tt
+call_written (calls.HeadManifest reference) h valid = parts_are (parts_of (calls.HeadManifest reference)) (token (codes "HEAD") (omega arith) refl) (manifest reference h) tt tt tt tt
+call_written (calls.DeleteManifest reference) h valid = parts_are (parts_of (calls.DeleteManifest reference)) (token (codes "DELETE") (omega arith) refl) (manifest reference h) tt tt tt tt
+call_written (calls.Tags n last) h valid =
+    parts_are (parts_of (calls.Tags n last)) (token (codes "GET") (omega arith) refl) (literal_path (codes "/tags/list") refl)
+    ((key_text (codes "n") refl, number_text n valid), ((key_text (codes "last") refl, h), tt)) tt tt tt
+call_written (calls.Referrers digest filter) h valid =
+    parts_are (parts_of (calls.Referrers digest filter)) (token (codes "GET") (omega arith) refl) (ending (codes "/referrers/") (digest_text digest) refl (digest_part digest h.0))
+    ((key_text (codes "artifactType") refl, h.1), tt) tt tt tt
 
 -- ---- requests
 
@@ -241,16 +202,11 @@ module _ (request : Request) (values : HasValues request) (valid : IsValid reque
 
   pub fields_written : AllByRecursion IsWritten (fields_in request)
   unfolding name_text is_token_byte body_of
-  fields_written = (
-    record { some = omega arith; token = refl; value = literal_visible (codes "member") refl },
-    (
-      record { some = omega arith; token = refl; value = parts_written.media },
-      (
-        record { some = omega arith; token = refl; value = range_seen (parts_of request.call).range parts_written.range },
-        (
-          record { some = omega arith; token = refl; value = hop_seen request.hop },
-          (record { some = omega arith; token = refl; value = size_seen (parts_of request.call).body body_short }, tt),
-        ),
-      ),
-    ),
-  )
+  fields_written =
+      let parts = parts_of request.call in (
+        record { some = omega arith; token = refl; value = literal_visible (codes "member") refl },
+        (record { some = omega arith; token = refl; value = parts_written.media },
+        (record { some = omega arith; token = refl; value = range_seen parts.range parts_written.range },
+        (record { some = omega arith; token = refl; value = hop_seen request.hop },
+        (record { some = omega arith; token = refl; value = size_seen parts.body body_short }, tt)))),
+      )

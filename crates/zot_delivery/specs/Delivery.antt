@@ -9,7 +9,7 @@ use Rattle.zot_model.specs.Valid.{IsValid}
 use Rattle.zot_route.specs.declared.routed.Routed.TheVariants as routes
 use Rattle.zot_route.specs.Routes.{Routes}
 use Rattle.zot_spell.specs.Wire.{body_of, head_of, request_bytes}
-use Rattle.zot_delivery.specs.Values.{HasValues}
+use Rattle.zot_model.specs.Values.{HasValues}
 
 -- What is read of a request's bytes, however long its head is. Whatever follows them, the head ends where the body
 -- begins. The head is one that is read. Whatever it is read as: it frames the body, whatever follows, under every limit

@@ -1,15 +1,13 @@
 //! A request on its way from one member to another.
 ghost use Rattle.std.specs.Prelude.{◌≡◌, IfOk};
-ghost use Rattle.zot_delivery.specs.Delivery.{IsDelivered};
 ghost use Rattle.zot_head.specs.Front.{IsHead};
 ghost use Rattle.zot_head.specs.declared.head.Head.{Head as AHead};
 ghost use Rattle.zot_model.specs.Valid.{IsValid};
 ghost use Rattle.zot_spell.specs.Wire.{with_hop};
 
-use crate::{has_values, request_is_read};
 use std::alloc::{AllocError, Global};
 use zot_head::{Head, HeadError, read_head};
-use zot_model::Request;
+use zot_model::{Request, has_values};
 use zot_route::{Routed, route};
 use zot_spell::{body_of, spell_request_head};
 

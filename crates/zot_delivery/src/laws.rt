@@ -1,7 +1,7 @@
 //! What holds of the bytes of every request.
 ghost use Rattle.std.specs.Prelude.{◌≡◌};
 ghost use Rattle.zot_delivery.specs.Delivery.{IsDelivered};
-ghost use Rattle.zot_delivery.specs.Values.{HasValues};
+ghost use Rattle.zot_model.specs.Values.{HasValues};
 ghost use Rattle.zot_model.specs.Valid.{IsValid};
 ghost use Rattle.zot_model.specs.declared.request.Request.{Request as ARequest};
 ghost use Rattle.zot_spell.specs.Wire.{request_bytes};

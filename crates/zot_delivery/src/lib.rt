@@ -3,10 +3,6 @@
 
 mod carrying;
 mod laws;
-#[cfg(test)]
-mod tests;
-mod values;
 
 pub use crate::carrying::carry;
 pub use crate::laws::{request_is_one, request_is_read};
-pub use crate::values::has_values;
