@@ -1,56 +1,48 @@
--- The requests of a connection are entries of the table's history.
-use Rattle.std.proofs.Common.{◌≡◌, ℕ, List, [], ◌∷◌, Option, Some, None, refl, sym, ap, ◌∙◌, subst}
-use Rattle.std.specs.Prelude.{IsSomeAnd}
-use Rattle.zot_model.specs.declared.call.Call.{Call}
+-- The requests of a connection are entries of the row's history.
+use Rattle.std.proofs.Common.{◌≡◌, ℕ, List, [], ◌∷◌, ◌++◌, Option, Some, None, refl, sym, ap, ◌∙◌, subst}
+use Rattle.zot_history.proofs.Runs.{run_append, run_from}
+use Rattle.zot_model.proofs.HistoryLemmas.{same_alike, same_itself}
 use Rattle.zot_model.specs.declared.reply.Reply.{Reply}
 use Rattle.zot_model.specs.declared.request.Request.{Request}
 use Rattle.zot_model.specs.History.{Entry, Run, Step}
-use Rattle.zot_model.specs.Plain.{MayAnswer}
-use Rattle.zot_model.specs.State.{Becomes, RepoState, RowState, repo_at}
+use Rattle.zot_model.specs.State.{AreSame, RowState}
 use Rattle.zot_outside.proofs.MomentLemmas.{at_before, stays_itself, stays_through}
 use Rattle.zot_outside.specs.Moments.{IsAt, StaysAt}
 use Rattle.zot_session.specs.Exchanges.{Conducts, Exchange, answered, declined}
-use Rattle.zot_commands.specs.Entries.{AnswersOver, AreEntries, IsEntry, Records, StandsBefore, entry_of}
-
-named_faults : (old new : RowState) (moment : ℕ) (name : Option (List ℕ)) (call : Call) (reply : Reply)
-    → IsSomeAnd name (λ n. (repo : RepoState) × Becomes old n repo new × MayAnswer moment (repo_at old n) call reply repo) → new.faults ≡ old.faults
-named_faults old new moment None call reply h = absurd h
-named_faults old new moment (Some name) call reply h = h.1.faults
+use Rattle.zot_commands.specs.Entries.{AnswersOver, AreEntries, AreOf, Records, StandBefore}
 
 -- ---- what the clock tells
 
-entry_before : (told later : Option ℕ) (faults : ℕ) (request : Request) (reply : Reply) (entry : Entry) → StaysAt told later → IsEntry later faults request reply entry → IsEntry told faults request reply entry
-entry_before told later faults request reply entry h k = record { call = k.call; moment = at_before told later entry.moment h k.moment; answer = k.answer; faults = k.faults }
+of_before : (told later : Option ℕ) (request : Request) (reply : Reply) (entries : List Entry) → StaysAt told later → AreOf later request reply entries → AreOf told request reply entries
+of_before told later request reply entries h k = (k.0, at_before told later k.0 h k.1, k.2)
 
-before_by : (told later : Option ℕ) (faults : ℕ) (name : Option (List ℕ)) (request : Request) (reply : Reply) (Others Wanted : List Entry → Type 0) (entries : List Entry) → StaysAt told later
-    → ((others : List Entry) → Others others → Wanted others) → StandsBefore name (IsEntry later faults request reply) Others entries → StandsBefore name (IsEntry told faults request reply) Wanted entries
-before_by told later faults None request reply Others Wanted entries h f k = f entries k
-before_by told later faults (Some name) request reply Others Wanted [] h f k = absurd k
-before_by told later faults (Some name) request reply Others Wanted (entry ∷ entries) h f k = (entry_before told later faults request reply entry h k.0, f entries k.1)
+before_by : (told later : Option ℕ) (name : Option (List ℕ)) (request : Request) (reply : Reply) (Others Wanted : List Entry → Type 0) (entries : List Entry) → StaysAt told later
+    → ((others : List Entry) → Others others → Wanted others) → StandBefore name (AreOf later request reply) Others entries → StandBefore name (AreOf told request reply) Wanted entries
+before_by told later None request reply Others Wanted entries h f k = f entries k
+before_by told later (Some name) request reply Others Wanted entries h f k = (k.0, k.1, of_before told later request reply k.0 h k.2, f k.1 k.3, k.4)
 
 -- what is at the later moment is at the earlier, where the clock told it
-entries_before : (told later : Option ℕ) (faults : ℕ) (exchanges : List Exchange) (entries : List Entry) → StaysAt told later → AreEntries later faults exchanges entries → AreEntries told faults exchanges entries
-entries_before told later faults [] entries h k = k
-entries_before told later faults (answered message request reply ∷ exchanges) entries h k =
-    before_by told later faults request.name request reply (AreEntries later faults exchanges) (AreEntries told faults exchanges) entries h (λ others. entries_before told later faults exchanges others h) k
-entries_before told later faults (declined message reply ∷ exchanges) entries h k = entries_before told later faults exchanges entries h k
+entries_before : (told later : Option ℕ) (exchanges : List Exchange) (entries : List Entry) → StaysAt told later → AreEntries later exchanges entries → AreEntries told exchanges entries
+entries_before told later [] entries h k = k
+entries_before told later (answered message request reply ∷ exchanges) entries h k =
+    before_by told later request.name request reply (AreEntries later exchanges) (AreEntries told exchanges) entries h (λ others. entries_before told later exchanges others h) k
+entries_before told later (declined message reply ∷ exchanges) entries h k = entries_before told later exchanges entries h k
 
 -- ---- runs
 
 -- a run behind the answer to one request more
 records_over : (name : Option (List ℕ)) (told : Option ℕ) (old mid new : RowState) (request : Request) (reply : Reply) (exchanges : List Exchange) → AnswersOver name told old request reply mid → Records told mid exchanges new
-    → (entries : List Entry) × StandsBefore name (IsEntry told old.faults request reply) (AreEntries told old.faults exchanges) entries × Run old entries new
-records_over None told old mid new request reply exchanges asked ran = subst (λ row. Records told row exchanges new) asked.1 ran
-records_over (Some name) told old mid new request reply exchanges asked ran =
-    let same : mid.faults ≡ old.faults = named_faults old mid asked.0 request.name request.call reply asked.2.answers in (
-      entry_of asked.0 mid.faults request reply ∷ ran.0,
-      (record { call = refl; moment = asked.1; answer = refl; faults = same }, subst (λ faults. AreEntries told faults exchanges ran.0) same ran.1),
-      (mid, asked.2, ran.2),
-    )
+    → (entries : List Entry) × StandBefore name (AreOf told request reply) (AreEntries told exchanges) entries × Run old entries new
+records_over None told old mid new request reply exchanges asked ran = (ran.0, ran.1, run_from AreSame Step same_alike old mid new ran.0 asked.1 ran.2)
+records_over (Some name) told old mid new request reply exchanges asked ran = (
+  asked.2.entries ++ ran.0,
+  (asked.2.entries, ran.0, (asked.0, asked.1, asked.2.stand), ran.1, refl),
+  run_append AreSame Step same_alike old mid new asked.2.entries ran.0 asked.2.run ran.2,
+)
 
 -- what is at the later moment is at the earlier, where the clock told it
 records_before : (told later : Option ℕ) (old new : RowState) (exchanges : List Exchange) → StaysAt told later → Records later old exchanges new → Records told old exchanges new
-records_before told later old new exchanges h ran = (ran.0, entries_before told later old.faults exchanges ran.0 h ran.1, ran.2)
+records_before told later old new exchanges h ran = (ran.0, entries_before told later exchanges ran.0 h ran.1, ran.2)
 
 -- what answers from a table and a clock that were lent: what the clock tells, the table, and which ones were lent
 module _ {A N M : Type 0} (told : A → Option ℕ) (row : A → RowState) (table : A → N) (clock : A → M) where
@@ -64,7 +56,7 @@ module _ {A N M : Type 0} (told : A → Option ℕ) (row : A → RowState) (tabl
 
   -- the exchanges of a connection make a run of the table
   pub conducts_run : (old new : A) (exchanges : List Exchange) → Conducts Asked old exchanges new → Ran old exchanges new
-  conducts_run old new [] h = (([], refl, ap row h), subst (λ a. StaysAt (told old) (told a)) (sym h) (stays_itself (told old)), ap table h, ap clock h)
+  conducts_run old new [] h = (([], refl, subst (λ a. AreSame (row old) (row a)) (sym h) (same_itself (row old))), subst (λ a. StaysAt (told old) (told a)) (sym h) (stays_itself (told old)), ap table h, ap clock h)
   conducts_run old new (answered message request reply ∷ exchanges) h =
       let ran = conducts_run h.0 new exchanges h.2 in (
         records_over request.name (told old) (row old) (row h.0) (row new) request reply exchanges h.1.0 (records_before (told old) (told h.0) (row h.0) (row new) exchanges h.1.1 ran.0),

@@ -6,6 +6,7 @@ ghost use Rattle.zot_session.specs.Session.{Served};
 ghost use Rattle.zot_session.specs.declared.end.End.TheVariants as ends;
 ghost use Rattle.zot_outside.specs.Moments.{StaysAt};
 ghost use Rattle.zot_commands.specs.Entries.{Records};
+ghost use Rattle.zot_repo.specs.Table.{state_of};
 
 use std::alloc::Global;
 use zot_model::{Reply, Request};
@@ -24,8 +25,9 @@ impl<T: Clock> Answers for TableAnswers<'_, T> {
     ghost use Rattle.std.specs.Prelude.{◌≡◌};
     ghost use Rattle.zot_outside.specs.Moments.{StaysAt};
     ghost use Rattle.zot_commands.specs.Entries.{AnswersOver};
+    ghost use Rattle.zot_repo.specs.Table.{state_of};
 
-    ghost answers = { λ old request reply new. AnswersOver request.name (T.moment old.clock.now) old.table.now request reply new.table.now
+    ghost answers = { λ old request reply new. AnswersOver request.name (T.moment old.clock.now) (state_of old.table.now) request reply (state_of new.table.now)
         × StaysAt (T.moment old.clock.now) (T.moment new.clock.now)
         × (new.table.ghost_name ≡ old.table.ghost_name) × (new.clock.ghost_name ≡ old.clock.ghost_name) };
 
@@ -46,7 +48,7 @@ impl<T: Clock> TableAnswers<'_, T> {
         ensures same_table { self.new.table.ghost_name ≡ self.old.table.ghost_name }
         ensures same_clock { self.new.clock.ghost_name ≡ self.old.clock.ghost_name }
         ensures clock { StaysAt (T.moment self.old.clock.now) (T.moment self.new.clock.now) }
-        ensures served { Served (λ exchanges. Records (T.moment self.old.clock.now) self.old.table.now exchanges self.new.table.now) result (C.left source.old) (C.left source.new) (K.held sink.old) (K.held sink.new) }
+        ensures served { Served (λ exchanges. Records (T.moment self.old.clock.now) (state_of self.old.table.now) exchanges (state_of self.new.table.now)) result (C.left source.old) (C.left source.new) (K.held sink.old) (K.held sink.new) }
         ensures of_bytes { ¬ HasFailed result → IfSome (C.left source.old) (λ bytes. EndsAs bytes result) }
         ensures causes { Causes (result ≡ ends.ReadFault) (result ≡ ends.WriteFault) (C.faults source.old) (C.faults source.new) (K.faults sink.old) (K.faults sink.new) }
     {
@@ -63,7 +65,7 @@ pub fn serve_table<T: Clock, C: Source, K: Sink>(
     sink: &mut K,
 ) -> End
     ensures clock { StaysAt (T.moment clock.old) (T.moment clock.new) }
-    ensures served { Served (λ exchanges. Records (T.moment clock.old) table.old exchanges table.new) result (C.left source.old) (C.left source.new) (K.held sink.old) (K.held sink.new) }
+    ensures served { Served (λ exchanges. Records (T.moment clock.old) (state_of table.old) exchanges (state_of table.new)) result (C.left source.old) (C.left source.new) (K.held sink.old) (K.held sink.new) }
     ensures of_bytes { ¬ HasFailed result → IfSome (C.left source.old) (λ bytes. EndsAs bytes result) }
     ensures causes { Causes (result ≡ ends.ReadFault) (result ≡ ends.WriteFault) (C.faults source.old) (C.faults source.new) (K.faults sink.old) (K.faults sink.new) }
 {
