@@ -4,7 +4,8 @@ use zot_cases::{Trouble, unescape};
 use zot_model::Span;
 use zot_names::UploadId;
 
-/// The steps' words.
+/// The words of a step that are left.
+#[derive(Drop)]
 pub struct Words<'a> {
     rest: &'a str,
 }
