@@ -17,11 +17,12 @@ pub fn request(alloc: Global, given: &str) -> Result<String, Trouble> {
     let line = bytes_of(alloc, given)?;
     let request = received(alloc, line.as_str().as_bytes())?;
     confirm_spelled(alloc, &request, line.as_str().as_bytes())?;
+    confirm_apart(alloc, &request)?;
     confirm_carried(alloc, &request)?;
     text_of(alloc, &request)
 }
 
-/// Where a connection finds the end of the head of a request for the tags behind one of so many bytes. It is carried to
+/// Where a connection finds the end of the head of a request for the tags after one of so many bytes. It is carried to
 /// another member.
 pub fn long(alloc: Global, given: &str) -> Result<String, Trouble> {
     let Ok(count) = given.parse::<u16>() else {
@@ -71,11 +72,26 @@ fn asked(alloc: Global, head: &[u8], body: &[u8]) -> Result<Request, Trouble>
     }
 }
 
-// Confirms that the request is spelled as these bytes, whole and with its head and its body apart.
+// Confirms that the request is spelled as these bytes.
 fn confirm_spelled(alloc: Global, request: &Request, bytes: &[u8]) -> Result<(), Trouble> {
     let spelled = spell_request(alloc, request)?;
-    confirm(spelled.as_slice() == bytes, "spelled otherwise")?;
+    confirm(spelled.as_slice() == bytes, "spelled otherwise")
+}
+
+// Confirms that the request's body is found in its bytes, and before it its head.
+fn confirm_apart(alloc: Global, request: &Request) -> Result<(), Trouble> {
+    let spelled = spell_request(alloc, request)?;
     let (head, body) = head_and_body(request, spelled.as_slice());
+    confirm_parts(alloc, request, head, body)
+}
+
+// Confirms that these are the request's head and its body.
+fn confirm_parts(
+    alloc: Global,
+    request: &Request,
+    head: &[u8],
+    body: &[u8],
+) -> Result<(), Trouble> {
     confirm(body == body_of(request), "another body")?;
     let alone = spell_request_head(alloc, request, request.hop, body.len() as u64)?;
     confirm(alone.as_slice() == head, "another head")

@@ -93,29 +93,29 @@ module _ (name : List ℕ) (hop : Bool) where
   abbrev req : Call → Request
   req call = record { name = Some name; call = call; hop = hop }
 
-  -- the path behind the name, as the parts of the target have it
-  behind : (call : Call) (values : HasValues (req call)) (valid : IsValid (req call)) (path : List ℕ) → (parts_of call).path ≡ path → parts_in (target_text (req call)) ≡ split (codes "/v2/" ++ name ++ path)
-  behind call values valid path e = target_parts (req call) values valid ∙ ap (λ (p : List ℕ). split (codes "/v2/" ++ name ++ p)) e
+  -- the path after the name, as the parts of the target have it
+  named_parts : (call : Call) (values : HasValues (req call)) (valid : IsValid (req call)) (path : List ℕ) → (parts_of call).path ≡ path → parts_in (target_text (req call)) ≡ split (codes "/v2/" ++ name ++ path)
+  named_parts call values valid path e = target_parts (req call) values valid ∙ ap (λ (p : List ℕ). split (codes "/v2/" ++ name ++ p)) e
 
   blob_asked : (call : Call) (digest : List ℕ) → IsDigest digest → (parts_of call).path ≡ codes "/blobs/" ++ digest_text digest → (values : HasValues (req call)) → IsValid (req call)
       → Asks forms.Blob (digest_text digest) (read_of (req call)) (body_of (req call)) (Ok call) → IsAsked (req call)
   blob_asked call digest is path values valid asks =
       asked (req call) values valid forms.Blob (split name) (digest_text digest)
-      (blob_path (parts_in (target_text (req call))) name (digest_text digest) (behind call values valid (codes "/blobs/" ++ digest_text digest) path) (digest_part digest is) (not_uploads digest))
+      (blob_path (parts_in (target_text (req call))) name (digest_text digest) (named_parts call values valid (codes "/blobs/" ++ digest_text digest) path) (digest_part digest is) (not_uploads digest))
       (name_is name values.name) asks
 
   upload_asked : (call : Call) (id : Option ℕ) → (parts_of call).path ≡ codes "/blobs/uploads/" ++ id_text id → (values : HasValues (req call)) → IsValid (req call)
       → Asks forms.Upload (id_text id) (read_of (req call)) (body_of (req call)) (Ok call) → IsAsked (req call)
   upload_asked call id path values valid asks =
       asked (req call) values valid forms.Upload (split name) (id_text id)
-      (upload_path (parts_in (target_text (req call))) name (id_text id) (behind call values valid (codes "/blobs/uploads/" ++ id_text id) path) (id_part id) (id_some id))
+      (upload_path (parts_in (target_text (req call))) name (id_text id) (named_parts call values valid (codes "/blobs/uploads/" ++ id_text id) path) (id_part id) (id_some id))
       (name_is name values.name) asks
 
   manifest_asked : (call : Call) (reference : Reference) → IsRef reference → (parts_of call).path ≡ codes "/manifests/" ++ reference_text reference → (values : HasValues (req call)) → IsValid (req call)
       → Asks forms.Manifest (reference_text reference) (read_of (req call)) (body_of (req call)) (Ok call) → IsAsked (req call)
   manifest_asked call reference is path values valid asks =
       asked (req call) values valid forms.Manifest (split name) (reference_text reference)
-      (manifest_path (parts_in (target_text (req call))) name (reference_text reference) (behind call values valid (codes "/manifests/" ++ reference_text reference) path) (reference_part reference is))
+      (manifest_path (parts_in (target_text (req call))) name (reference_text reference) (named_parts call values valid (codes "/manifests/" ++ reference_text reference) path) (reference_part reference is))
       (name_is name values.name) asks
 
   call_asked : (call : Call) → HasValues (req call) → IsValid (req call) → IsAsked (req call)

@@ -26,7 +26,7 @@ use Rattle.zot_delivery.proofs.ByteLemmas.{IsVisible, visible_text}
 use Rattle.zot_delivery.proofs.FieldLemmas.{expects_none, few_lines, framed_by, framing_for, line_of, lines_are, lines_print, lines_read, none_passes, read_field, size_value, values_chosen}
 use Rattle.zot_delivery.proofs.WrittenLemmas.{body_short, fields_in, fields_written, parts_written, target_visible}
 
--- ---- a head and what stands behind it
+-- ---- a head and what stands after it
 
 text_is : (text : List ℕ) (head : Head) (is : IsHead text head) → text ≡ print_request is.request
 text_is text head is = is.reads.1 ∙ append-nil (print_request is.request)
@@ -46,7 +46,7 @@ not_crowded text h is e few (n, ends, more) =
     ∙ ap lines_in (take_all (length (print_request h)) (print_request h) (omega arith)) ∙ lines_in-print h is in
     omega (arith, lines, more, few)
 
--- a head that keeps its limit stands at the front, and what its framing makes of the bytes behind it
+-- a head that keeps its limit stands at the front, and what its framing makes of the bytes after it
 pub head_in_front : (limit : ℕ) (text rest : List ℕ) (head : Head) (front : Front) → IsHead text head → length text ≤ head_limit → front ≡ with_body limit head head.framing rest
     → IsFront limit (text ++ rest) front
 head_in_front limit text rest head front is le e =

@@ -48,7 +48,7 @@ decoded-path path all = decoded_parts (split path) (split_all IsPathByte path al
 pub path_texts : (path : List ℕ) → All IsPathByte path → AllByRecursion IsUtf8 (split path)
 path_texts path all = text_parts (split path) (split_all IsPathByte path all)
 
--- ---- the parts of a name and those behind it
+-- ---- the parts of a name and those after it
 
 onto-append : (b : ℕ) (parts more : List (List ℕ)) → 0 < length parts → onto_first b (parts ++ more) ≡ onto_first b parts ++ more
 onto-append b [] more some = absurd (omega arith)

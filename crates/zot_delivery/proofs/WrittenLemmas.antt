@@ -106,7 +106,7 @@ pub record AreWritten (parts : CallParts) : Type 0 where
 token : (text : List ℕ) → 0 < length text → list_all is_token_byte text ≡ true → IsToken text
 token text some e = (some, AllPass-from_list_all is_token_byte text e)
 
--- a part of a path, and a text behind it
+-- a part of a path, and a text after it
 ending : (front text : List ℕ) → list_all is_path_byte front ≡ true → All IsPartByte text → All IsPathByte (front ++ text)
 ending front text e all = All-append IsPathByte front text (literal_path front e) (part_path text all)
 

@@ -30,7 +30,7 @@ present ((name, Some value) ∷ pairs) = (name, value) ∷ present pairs
 abbrev pub fields_given : List (FieldName × Option (List ℕ)) → List Field
 fields_given fields = map (λ field. field_of field.0 field.1) (present fields)
 
--- a query behind its `?`, where there is one
+-- a query after its `?`, where there is one
 unfoldable pub query_text : List ℕ → List ℕ
 query_text [] = []
 query_text (b ∷ form) = codes "?" ++ b ∷ form

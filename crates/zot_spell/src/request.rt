@@ -119,7 +119,7 @@ fn push_name(out: &mut Vec<u8>, request: &Request) -> Result<(), AllocError>
     }
 }
 
-// Adds what stands behind the name in a call's path.
+// Adds what stands after the name in a call's path.
 #[tactic(auto, unfolding(crate::specs::Wire::parts_of))]
 fn push_path(alloc: Global, out: &mut Vec<u8>, call: &Call) -> Result<(), AllocError>
     ensures { OnOk result (out.new.items ≡ out.old.items ++ (parts_of call.now).path) }
@@ -192,7 +192,7 @@ fn push_reference(alloc: Global, out: &mut Vec<u8>, reference: &Reference) -> Re
     }
 }
 
-// Adds a query behind its `?`, where there is one.
+// Adds a query after its `?`, where there is one.
 #[tactic(auto, unfolding(crate::specs::Wire::query_text))]
 fn push_query(out: &mut Vec<u8>, form: &str) -> Result<(), AllocError>
     ensures { OnOk result (out.new.items ≡ out.old.items ++ query_text form.now) }
