@@ -1,10 +1,16 @@
 //! A folder beside a store in memory.
 use crate::folders::new_store;
+use crate::scripts::{Step, told};
 use std::alloc::Global;
 use std::fs;
 use zot_cases::Case;
 use zot_fakes::SteadyStore;
-use zot_outside::{Store, StoreError};
+use zot_outside::Store;
+
+// The calls of the sequence, of which two in eight are `append`.
+const CALLS: [&str; 8] = [
+    "put", "append", "append", "copy", "delete", "size", "read", "next",
+];
 
 // Paths that one folder can keep side by side.
 const PATHS: [&str; 8] = ["a-b", "a.b", "a/b", "a/b-", "a/c/d", "a/c/e", "a0", "b/a"];
@@ -28,41 +34,18 @@ pub fn alike(rt: HostRuntime, case: &Case) -> anyhow::Result<String> {
     Ok(format!(in alloc; "{same}")?)
 }
 
-// Whether two stores answer alike.
+// Whether two stores answer the call of a number alike.
 fn answer_alike<S: Store, T: Store>(alloc: Global, one: &mut S, other: &mut T, n: u64) -> bool {
-    match (told(alloc, one, n), told(alloc, other, n)) {
-        (Ok(one), Ok(other)) => one.as_slice() == other.as_slice(),
+    let step = Step {
+        call: CALLS[(n % 8) as usize],
+        path: PATHS[(n / 8 % 8) as usize],
+        more: PATHS[(n / 64 % 8) as usize],
+        at: n / 64 % 16,
+        room: 6,
+    };
+    match (told(alloc, one, &step), told(alloc, other, &step)) {
+        (Ok(one), Ok(other)) => one.as_str() == other.as_str(),
         (Err(one), Err(other)) => one == other,
         _ => false,
-    }
-}
-
-// One of the paths.
-fn path(n: u64) -> &'static str {
-    PATHS[(n % 8) as usize]
-}
-
-// What a store answers to the call of a number, as bytes.
-fn told<S: Store>(alloc: Global, store: &mut S, n: u64) -> Result<Vec<u8>, StoreError> {
-    let (one, other) = (path(n / 8), path(n / 64));
-    let mut buf = [0u8; 6];
-    let nothing = Vec::new(alloc);
-    match n % 8 {
-        0 => store.put(alloc, one, other.as_bytes()).map(|()| nothing),
-        1 | 2 => store.append(alloc, one, other.as_bytes()).map(|()| nothing),
-        3 => store.copy(alloc, one, other).map(|()| nothing),
-        4 => store.delete(alloc, one).map(|()| nothing),
-        5 => {
-            let size = store.size(alloc, one)?;
-            Ok(Vec::from_slice(alloc, &size.to_be_bytes())?)
-        }
-        6 => {
-            let n = store.read(alloc, one, n / 64 % 16, &mut buf)?;
-            Ok(Vec::from_slice(alloc, buf.get(..n).unwrap_or(&[]))?)
-        }
-        _ => match store.next(alloc, one)? {
-            Some(next) => Ok(Vec::from_slice(alloc, next.as_bytes())?),
-            None => Ok(nothing),
-        },
     }
 }

@@ -21,13 +21,30 @@ pub fn add(all: &mut String, came: &str) -> Result<(), AllocError> {
     all.push_str(if came.is_empty() { "-" } else { came })
 }
 
-/// What a store answers to one call.
+/// A call on a store: its word, a path, and what is written or where it is copied to. A read begins at a place, and a few bytes are read.
+#[derive(Clone, Copy)]
+pub struct Step<'a> {
+    pub call: &'a str,
+    pub path: &'a str,
+    pub more: &'a str,
+    pub at: u64,
+    pub room: usize,
+}
+
+/// What a store answers to one call of a script. It reads from the third byte on, four bytes.
 pub fn answer<S: Store>(alloc: Global, store: &mut S, step: &str) -> anyhow::Result<String> {
     let mut words = step.split(' ');
     let call = word(words.next());
     let path = text(alloc, word(words.next()))?;
     let more = text(alloc, word(words.next()))?;
-    match told(alloc, store, call, path.as_str(), more.as_str()) {
+    let step = Step {
+        call,
+        path: path.as_str(),
+        more: more.as_str(),
+        at: 2,
+        room: 4,
+    };
+    match told(alloc, store, &step) {
         Ok(text) => Ok(text),
         Err(StoreError::Missing) => Ok(String::from_str(alloc, "missing")?),
         Err(StoreError::Failed) => Ok(String::from_str(alloc, "failed")?),
@@ -52,27 +69,25 @@ fn text(alloc: Global, word: &str) -> anyhow::Result<String> {
     }
 }
 
-// What a call answers as text: `size`, `read` (from the third byte on, four bytes), `put`, `append`, `copy`, `delete`, or `next`.
-fn told<S: Store>(
-    alloc: Global,
-    store: &mut S,
-    call: &str,
-    path: &str,
-    more: &str,
-) -> Result<String, StoreError> {
-    let mut buf = [0u8; 4];
-    let nothing = String::new(alloc);
-    match call {
-        "size" => Ok(format!(in alloc; "{}", store.size(alloc, path)?)?),
-        "read" => {
-            let n = store.read(alloc, path, 2, &mut buf)?;
-            Ok(escape(alloc, buf.get(..n).unwrap_or(b"no such bytes"))?)
-        }
-        "put" => store.put(alloc, path, more.as_bytes()).map(|()| nothing),
-        "append" => store.append(alloc, path, more.as_bytes()).map(|()| nothing),
-        "copy" => store.copy(alloc, path, more).map(|()| nothing),
-        "delete" => store.delete(alloc, path).map(|()| nothing),
-        "next" => Ok(store.next(alloc, path)?.unwrap_or(nothing)),
-        _ => Ok(format!(in alloc; "no call {call}")?),
+/// What a call answers, as text: `size`, `read`, `put`, `append`, `copy`, `delete`, or `next`.
+pub fn told<S: Store>(alloc: Global, store: &mut S, step: &Step) -> Result<String, StoreError> {
+    match step.call {
+        "put" => store.put(alloc, step.path, step.more.as_bytes())?,
+        "append" => store.append(alloc, step.path, step.more.as_bytes())?,
+        "copy" => store.copy(alloc, step.path, step.more)?,
+        "delete" => store.delete(alloc, step.path)?,
+        "size" => return Ok(format!(in alloc; "{}", store.size(alloc, step.path)?)?),
+        "read" => return read(alloc, store, step),
+        "next" => return Ok(store.next(alloc, step.path)?.unwrap_or(String::new(alloc))),
+        call => return Ok(format!(in alloc; "no call {call}")?),
     }
+    Ok(String::new(alloc))
+}
+
+// What a read finds, at most eight bytes.
+fn read<S: Store>(alloc: Global, store: &mut S, step: &Step) -> Result<String, StoreError> {
+    let mut buf = [0u8; 8];
+    let room = step.room.min(8);
+    let n = store.read(alloc, step.path, step.at, &mut buf[..room])?;
+    Ok(escape(alloc, buf.get(..n).unwrap_or(b"no such bytes"))?)
 }

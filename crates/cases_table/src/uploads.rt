@@ -1,5 +1,5 @@
 //! The upload sessions of one repository.
-use crate::scripts::Words;
+use crate::scripts::{bytes_at, number_at, range_at, word_at, words_of};
 use std::alloc::Global;
 use zot_cases::{Trouble, escape};
 use zot_digest::digest_of;
@@ -22,45 +22,53 @@ pub fn uploads(alloc: Global, given: &str) -> Result<String, Trouble> {
 
 // What one step answers.
 fn step_of(alloc: Global, uploads: &mut Uploads, step: &str) -> Result<String, Trouble> {
-    let mut words = Words::of(step);
-    match words.next()? {
+    let words = words_of(alloc, step)?;
+    let words = words.as_slice();
+    match word_at(words, 0)? {
         "fresh" => Ok(format!(in alloc; "{}", uploads.is_fresh())?),
-        "begin" => {
-            let began = uploads.begin(alloc, words.number()?);
-            numbered(alloc, began.map(|id| id.number()))
-        }
-        "append" => {
-            let id = UploadId::new(words.number()?);
-            let range = words.range()?;
-            let piece = words.bytes(alloc)?;
-            numbered(alloc, uploads.append(id, range, piece.as_slice()))
-        }
+        "begin" => begin(alloc, uploads, number_at(words, 1)?),
+        "append" => append(alloc, uploads, words),
         "length" => {
-            let length = uploads.length(UploadId::new(words.number()?));
+            let length = uploads.length(UploadId::new(number_at(words, 1)?));
             numbered(alloc, length.ok_or(UploadError::Unknown))
         }
-        "whole" => whole(alloc, uploads, &mut words),
+        "whole" => whole(alloc, uploads, words),
         "end" => {
-            uploads.end(UploadId::new(words.number()?));
+            uploads.end(UploadId::new(number_at(words, 1)?));
             Ok(String::from_str(alloc, "ended")?)
         }
         "expire" => {
-            let moment = words.number()?;
-            let delay = words.number()?;
-            numbered(alloc, Ok(uploads.expire(moment, delay)))
+            let count = uploads.expire(number_at(words, 1)?, number_at(words, 2)?);
+            numbered(alloc, Ok(count))
         }
-        "begin_many" => begin_many(alloc, uploads, words.number()?),
-        "append_many" => append_many(alloc, uploads, &mut words),
+        "begin_many" => begin_many(alloc, uploads, number_at(words, 1)?),
+        "append_many" => append_many(alloc, uploads, words),
         _ => Err(Trouble::Wrong("no such step")),
     }
 }
 
+// A new upload.
+fn begin(alloc: Global, uploads: &mut Uploads, moment: u64) -> Result<String, Trouble> {
+    match uploads.begin(alloc, moment) {
+        Ok(id) => numbered(alloc, Ok(id.number())),
+        Err(error) => refused(alloc, error),
+    }
+}
+
+// A piece more of an upload.
+fn append(alloc: Global, uploads: &mut Uploads, words: &[&str]) -> Result<String, Trouble> {
+    let id = UploadId::new(number_at(words, 1)?);
+    let range = range_at(words, 2);
+    let piece = bytes_at(alloc, words, 3)?;
+    numbered(alloc, uploads.append(id, range, piece.as_slice()))
+}
+
 // All bytes of an upload with its last piece.
-fn whole(alloc: Global, uploads: &Uploads, words: &mut Words) -> Result<String, Trouble> {
-    let id = UploadId::new(words.number()?);
-    let range = words.range()?;
-    let piece = words.bytes(alloc)?;
-    let content = words.bytes(alloc)?;
+fn whole(alloc: Global, uploads: &Uploads, words: &[&str]) -> Result<String, Trouble> {
+    let id = UploadId::new(number_at(words, 1)?);
+    let range = range_at(words, 2);
+    let piece = bytes_at(alloc, words, 3)?;
+    let content = bytes_at(alloc, words, 4)?;
     let digest = digest_of(content.as_slice());
     match uploads.whole(alloc, id, range, piece.as_slice(), &digest) {
         Ok(bytes) => Ok(escape(alloc, bytes.as_slice())?),
@@ -70,18 +78,18 @@ fn whole(alloc: Global, uploads: &Uploads, words: &mut Words) -> Result<String, 
 
 // So many uploads more; the id of the last one.
 fn begin_many(alloc: Global, uploads: &mut Uploads, count: u64) -> Result<String, Trouble> {
-    let mut last = Ok(0);
+    let mut last = String::new(alloc);
     for _ in 0..count {
-        last = uploads.begin(alloc, 0).map(|id| id.number());
+        last = begin(alloc, uploads, 0)?;
     }
-    numbered(alloc, last)
+    Ok(last)
 }
 
 // So many pieces of so many bytes more; the length after the last one.
-fn append_many(alloc: Global, uploads: &mut Uploads, words: &mut Words) -> Result<String, Trouble> {
-    let id = UploadId::new(words.number()?);
-    let count = words.number()?;
-    let size = words.number()?;
+fn append_many(alloc: Global, uploads: &mut Uploads, words: &[&str]) -> Result<String, Trouble> {
+    let id = UploadId::new(number_at(words, 1)?);
+    let count = number_at(words, 2)?;
+    let size = number_at(words, 3)?;
     let piece = vec![in alloc; 0; usize::try_from(size).unwrap_or(0)]?;
     let mut last = Ok(0);
     for _ in 0..count {

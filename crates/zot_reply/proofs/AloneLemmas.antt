@@ -1,50 +1,34 @@
 -- No other replies to a request share a spelling.
 use Rattle.std.proofs.Common.{◌≡◌, ◌⊎◌, inl, inr, ℕ, ◌<◌, ◌≤◌, Bool, false, List, [], ◌++◌, Option, Some, None, refl, sym, subst, ◌∙◌, arith}
-use Rattle.std.proofs.lemmas.List.{append_assoc}
+use Rattle.zot_model.specs.Calls.{is_head}
 use Rattle.zot_model.specs.declared.call.Call.{Call}
 use Rattle.zot_model.specs.declared.call.Call.TheVariants as calls
+use Rattle.zot_model.specs.declared.mount.Mount.{Mount}
 use Rattle.zot_model.specs.declared.reply.Reply.{Reply}
 use Rattle.zot_model.specs.declared.reply.Reply.TheVariants as replies
 use Rattle.zot_model.specs.declared.request.Request.{Request}
-use Rattle.zot_model.specs.Fits.{Fits, FitsCall, IsRefusalOf, IsSuccessOf}
+use Rattle.zot_model.specs.Fits.{Fits, FitsCall, IsBegun, IsRefusalOf, IsSuccessOf}
+use Rattle.zot_model.specs.Values.{IsReal}
 use Rattle.zot_spell.specs.Alike.{AreAlike}
-use Rattle.zot_spell.specs.Fields.{status_line}
-use Rattle.zot_spell.specs.Spelling.{name_in, parts_of, reply_bytes, rest_of, spelled}
+use Rattle.zot_spell.specs.Spelling.{name_in, parts_of, reply_bytes}
 use Rattle.zot_spell.proofs.FitLemmas.{not_success, session_status}
 use Rattle.zot_reply.proofs.CodeLemmas.{high_status}
-use Rattle.zot_reply.proofs.CutLemmas.{same_status}
-use Rattle.zot_reply.proofs.ReplyingLemmas.{FindsFitting}
-use Rattle.zot_reply.proofs.SameLemmas.{AreSpelledAlike, blob_heads_alike, blobs_alike, blobs_made_alike, indexes_alike, manifest_heads_alike, manifests_alike, manifests_made_alike, pages_alike, same_blob_made, sessions_alike}
+use Rattle.zot_reply.proofs.SameLemmas.{AreSpelledAlike, blobs_alike, heads_alike, indexes_alike, made_alike, manifest_heads_alike, manifests_alike, manifests_made_alike, pages_alike, sessions_alike, status_in, told_alike}
 use Rattle.zot_reply.proofs.SameRefusals.{refusals_alike}
-use Rattle.zot_reply.proofs.BegunLemmas.{of_begun}
-use Rattle.zot_reply.specs.Reading.{IsReal, IsTaken, Spells, is_head}
-
--- ---- statuses
-
--- the status of a reply on the repository of the name
-abbrev told : List ℕ → Reply → ℕ
-told name reply = (parts_of name reply).status
-
-told_alike : (name : List ℕ) (a b : Reply) (head c k : Bool) → told name a < 1000 → told name b < 1000 → AreSpelledAlike name head c k a b → told name a ≡ told name b
-unfolding spelled
-told_alike name a b head c k x y e =
-    let p = parts_of name a in
-    let q = parts_of name b in
-    same_status p.status q.status (p.own ++ rest_of p head c) (q.own ++ rest_of q head k) x y
-    (sym (append_assoc (status_line p.status) p.own (rest_of p head c)) ∙ e ∙ append_assoc (status_line q.status) q.own (rest_of q head k))
+use Rattle.zot_reply.specs.Reading.{IsPosting}
 
 low_session : (status : ℕ) → (status ≡ 202) ⊎ (status ≡ 204) → status < 300
 low_session status (inl h) = omega (arith, h)
 low_session status (inr h) = omega (arith, h)
 
-success_low : (name : List ℕ) (call : Call) (reply : Reply) → IsSuccessOf call reply → told name reply < 300
+success_low : (name : List ℕ) (call : Call) (reply : Reply) → IsSuccessOf call reply → status_in name reply < 300
 unfolding parts_of
 success_low name call (replies.Session id size status) h = low_session status (session_status call id size status h)
 success_low name call (replies.Refused status code detail) h = absurd (not_success call status code detail h)
 success_low name call replies.Base h = omega arith
 success_low name call reply h = omega arith
 
-refusal_high : (name : List ℕ) (call : Call) (reply : Reply) → IsRefusalOf call reply → (400 ≤ told name reply) × (told name reply < 1000)
+refusal_high : (name : List ℕ) (call : Call) (reply : Reply) → IsRefusalOf call reply → (400 ≤ status_in name reply) × (status_in name reply < 1000)
 unfolding parts_of
 refusal_high name call (replies.Refused status code detail) h =
     let high = high_status code in (omega (arith, high.0, h.1), omega (arith, high.1, h.1))
@@ -66,14 +50,20 @@ taken_apart name d id size status head c k h e =
     let same : 201 ≡ status = told_alike name (replies.BlobMade d) (replies.Session id size status) head c k (omega arith) (omega (arith, h)) e in
     omega (arith, h, same)
 
-taken_alike : (name : List ℕ) (a b : Reply) (c k : Bool) → IsTaken a → IsTaken b → IsReal a → IsReal b → AreSpelledAlike name false c k a b → AreAlike false a b
-taken_alike name (replies.BlobMade d) (replies.BlobMade f) c k h g x y e = same_blob_made name d f false c k x y e
+taken_alike : (name : List ℕ) (a b : Reply) (c k : Bool) → IsPosting a → IsPosting b → IsReal a → IsReal b → AreSpelledAlike name false c k a b → AreAlike false a b
+taken_alike name (replies.BlobMade d) (replies.BlobMade f) c k h g x y e = made_alike name (replies.BlobMade d) (replies.BlobMade f) c k tt tt x y e
 taken_alike name (replies.BlobMade d) (replies.Session j m t) c k h g x y e = absurd (taken_apart name d j m t false c k g e)
 taken_alike name (replies.Session i n s) (replies.BlobMade f) c k h g x y e = absurd (taken_apart name f i n s false k c h (sym e))
 taken_alike name (replies.Session i n s) (replies.Session j m t) c k h g x y e = sessions_alike 202 name (replies.Session i n s) (replies.Session j m t) c k h g x y e
 taken_alike name (replies.BlobMade d) b c k h g x y e = absurd g
 taken_alike name (replies.Session i n s) b c k h g x y e = absurd g
 taken_alike name a b c k h g x y e = absurd h
+
+-- a POST is answered so
+pub posting_of : (mount : Option Mount) (reply : Reply) → IsBegun mount reply → IsPosting reply
+posting_of mount (replies.BlobMade digest) h = tt
+posting_of mount (replies.Session id size status) h = h
+posting_of mount reply h = absurd h
 
 base_alike : (a b : Reply) → IsSuccessOf calls.Base a → IsSuccessOf calls.Base b → AreAlike false a b
 base_alike replies.Base replies.Base h g = refl
@@ -88,14 +78,14 @@ deleted_alike digest a b h g = absurd h
 successes_alike : (name : List ℕ) (call : Call) (a b : Reply) (c k : Bool) → IsSuccessOf call a → IsSuccessOf call b → IsReal a → IsReal b → AreSpelledAlike name (is_head call) c k a b → AreAlike (is_head call) a b
 successes_alike name calls.Base a b c k h g x y e = base_alike a b h g
 successes_alike name (calls.GetBlob digest) a b c k h g x y e = blobs_alike name a b c k h g x y e
-successes_alike name (calls.HeadBlob digest) a b c k h g x y e = blob_heads_alike name a b c k h g x y e
+successes_alike name (calls.HeadBlob digest) a b c k h g x y e = heads_alike name a b c k h g x y e
 successes_alike name (calls.DeleteBlob digest) a b c k h g x y e = deleted_alike digest a b h g
-successes_alike name (calls.Post mount None body) a b c k h g x y e = taken_alike name a b c k (of_begun mount a h) (of_begun mount b g) x y e
-successes_alike name (calls.Post mount (Some digest) body) a b c k h g x y e = blobs_made_alike name a b c k h g x y e
+successes_alike name (calls.Post mount None body) a b c k h g x y e = taken_alike name a b c k (posting_of mount a h) (posting_of mount b g) x y e
+successes_alike name (calls.Post mount (Some digest) body) a b c k h g x y e = made_alike name a b c k h g x y e
 successes_alike name (calls.Patch None range body) a b c k h g x y e = absurd h
 successes_alike name (calls.Patch (Some id) range body) a b c k h g x y e = sessions_alike 202 name a b c k h g x y e
 successes_alike name (calls.Finish None range digest body) a b c k h g x y e = absurd h
-successes_alike name (calls.Finish (Some id) range digest body) a b c k h g x y e = blobs_made_alike name a b c k h g x y e
+successes_alike name (calls.Finish (Some id) range digest body) a b c k h g x y e = made_alike name a b c k h g x y e
 successes_alike name (calls.UploadState None) a b c k h g x y e = absurd h
 successes_alike name (calls.UploadState (Some id)) a b c k h g x y e = sessions_alike 204 name a b c k h g x y e
 successes_alike name (calls.PutManifest reference media body) a b c k h g x y e = manifests_made_alike name a b c k h g x y e
@@ -117,13 +107,3 @@ pub alone : (request : Request) (a b : Reply) (c k : Bool) → Fits request a �
     → reply_bytes (Some request) a (is_head request.call) c ≡ reply_bytes (Some request) b (is_head request.call) k → AreAlike (is_head request.call) a b
 unfolding reply_bytes
 alone request a b c k h g x y e = fitting_alike (name_in (Some request)) request.call a b c k h g x y e
-
--- ---- what is read
-
--- the reply that is found is like each one that has the bytes
-pub found_alike : (request : Request) (bytes : List ℕ) (close : Bool) (found : Option Reply) (reply other : Reply) → FindsFitting request close bytes found → found ≡ Some reply
-    → IsReal other → Spells request other bytes → AreAlike (is_head request.call) other reply
-unfolding reply_bytes
-found_alike request bytes close found reply other h s real spelling =
-    let f = subst (FindsFitting request close bytes) s h in
-    fitting_alike (name_in (Some request)) request.call other reply spelling.close close spelling.fits f.0 real f.2 (sym spelling.is ∙ f.1)

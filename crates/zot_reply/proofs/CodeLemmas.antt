@@ -1,5 +1,5 @@
 -- Which refusal a status and the size of its body tell.
-use Rattle.std.proofs.Common.{◌≡◌, ◌≢◌, ℕ, zero, suc, ◌+◌, ◌*◌, ◌<◌, ◌≤◌, ◌^◌, ◌==◌, Bool, true, not, ◌&&◌, if◌then◌else◌, inl, inr, List, [], ◌∷◌, length, replicate, Some, None, refl, sym, ap, ◌∙◌, arith, slice_index}
+use Rattle.std.proofs.Common.{◌≡◌, ◌≢◌, ℕ, zero, suc, ◌+◌, ◌*◌, ◌<◌, ◌≤◌, ◌^◌, ◌==◌, Bool, true, not, ◌&&◌, if◌then◌else◌, inl, inr, List, [], ◌∷◌, length, replicate, Some, None, refl, sym, ap, ◌∙◌, arith, slice_index, lit<}
 use Rattle.std.proofs.lemmas.Bool.{and_parts}
 use Rattle.std.proofs.lemmas.Bool.Decides.{nat_tests}
 use Rattle.hex.specs.Hex.{encode_with}
@@ -12,43 +12,14 @@ use Rattle.zot_model.specs.declared.code.Code.TheVariants.{BlobUnknown, BlobUplo
 use Rattle.zot_model.specs.declared.detail.Detail.{Detail}
 use Rattle.zot_model.specs.declared.detail.Detail.TheVariants as details
 use Rattle.zot_model.specs.declared.methods.Methods.TheVariants as methods
-use Rattle.zot_model.specs.Fits.{HasDetail, IsAmong, SaysMissing, SaysNothing, SaysDiffer, codes_of, status_of}
+use Rattle.zot_model.specs.Codes.{HasDetail, code_text, message_text, status_of}
+use Rattle.zot_model.specs.Fits.{IsAmong, codes_of}
 use Rattle.zot_spell.specs.Alike.{IsDetail}
 use Rattle.zot_spell.specs.Bodies.{detail_text, error_body, errors_value}
-use Rattle.zot_spell.specs.Codes.{code_text, message_text}
-use Rattle.zot_spell.specs.Fields.{allow_field}
-use Rattle.zot_spell.specs.Spelling.{refusal_fields}
 use Rattle.zot_spell.proofs.AlikeLemmas.{unseen_size}
-use Rattle.zot_reply.proofs.DetailLemmas.{differ_own, missing_own, unseen_kind}
+use Rattle.zot_reply.proofs.DetailLemmas.{unseen_kind}
 
 -- ---- the sizes of bodies
-
--- how many bytes the body of a refusal has
-abbrev pub body_size : Code → ℕ
-body_size BlobUnknown = 61
-body_size BlobUploadInvalid = 75
-body_size BlobUploadUnknown = 75
-body_size DigestInvalid = 65
-body_size ManifestBlobUnknown = 162
-body_size ManifestInvalid = 69
-body_size ManifestUnknown = 69
-body_size NameInvalid = 61
-body_size NameUnknown = 61
-body_size SizeInvalid = 61
-body_size Unsupported = 59
-body_size TooManyRequests = 67
-body_size HeadInvalid = 61
-body_size HeadTooLong = 63
-body_size StorageFault = 63
-body_size UpstreamFault = 65
-body_size UpstreamMismatch = 241
-body_size UpstreamIncomplete = 158
-body_size UpstreamInvalid = 152
-body_size UpstreamTooLarge = 73
-body_size PeerFault = 57
-body_size NoMemory = 55
-body_size HopRefused = 59
-body_size NotBuilt = 55
 
 abbrev zeros : List ℕ
 zeros = replicate 32 0
@@ -89,40 +60,18 @@ sample_digests UpstreamIncomplete = are_zeros
 sample_digests UpstreamInvalid = are_zeros
 sample_digests code = tt
 
-sample_size : (code : Code) → length (error_body code (sample code)) ≡ body_size code
-unfolding error_body errors_value detail_text code_text message_text escape_byte digest_text encode_with
-sample_size BlobUnknown = refl
-sample_size BlobUploadInvalid = refl
-sample_size BlobUploadUnknown = refl
-sample_size DigestInvalid = refl
-sample_size ManifestBlobUnknown = refl
-sample_size ManifestInvalid = refl
-sample_size ManifestUnknown = refl
-sample_size NameInvalid = refl
-sample_size NameUnknown = refl
-sample_size SizeInvalid = refl
-sample_size Unsupported = refl
-sample_size TooManyRequests = refl
-sample_size HeadInvalid = refl
-sample_size HeadTooLong = refl
-sample_size StorageFault = refl
-sample_size UpstreamFault = refl
-sample_size UpstreamMismatch = refl
-sample_size UpstreamIncomplete = refl
-sample_size UpstreamInvalid = refl
-sample_size UpstreamTooLarge = refl
-sample_size PeerFault = refl
-sample_size NoMemory = refl
-sample_size HopRefused = refl
-sample_size NotBuilt = refl
+-- how many bytes the body of a refusal with a detail of its kind has
+pub body_size : Code → ℕ
+body_size code = length (error_body code (sample code))
 
 pub has_size : (code : Code) (detail : Detail) → code ≢ BlobUploadInvalid → HasDetail code detail → IsDetail detail → length (error_body code detail) ≡ body_size code
-has_size code detail other has digests =
-    unseen_size code detail (sample code) digests (sample_digests code) (unseen_kind code detail (sample code) other has (sample_kind code)) ∙ sample_size code
+unfolding body_size
+has_size code detail other has digests = unseen_size code detail (sample code) digests (sample_digests code) (unseen_kind code detail (sample code) other has (sample_kind code))
 
 pub size_small : (code : Code) → body_size code < 2 ^ 64
-size_small BlobUnknown = omega arith
-size_small code = omega arith
+unfolding body_size error_body errors_value detail_text code_text message_text escape_byte digest_text encode_with
+size_small BlobUnknown = lit< tt
+size_small code = lit< tt
 
 -- ---- the codes of a call differ in what is seen of them
 
@@ -154,6 +103,7 @@ one_code (code ∷ codes) a b h (inr i) (inl t) e = absurd (new_differs (seen_of
 one_code (code ∷ codes) a b h (inr i) (inr j) e = one_code codes a b (and_parts (is_new (seen_of code) codes) (are_distinct codes) h).1 i j e
 
 pub distinct_codes : (call : Call) → are_distinct (codes_of call) ≡ true
+unfolding body_size error_body errors_value detail_text code_text message_text escape_byte digest_text encode_with
 distinct_codes (calls.Post mount None body) = refl
 distinct_codes (calls.Post mount (Some digest) body) = refl
 distinct_codes (calls.Patch None range body) = refl
@@ -174,33 +124,3 @@ high_status code = (omega arith, omega arith)
 pub range_status : (code : Code) → status_of code ≡ 416 → code ≡ BlobUploadInvalid
 range_status BlobUploadInvalid e = refl
 range_status code e = absurd (omega (arith, e))
-
--- the own fields of refusals with this status, but for those that tell an upload
-abbrev pub own_of : ℕ → List ℕ
-own_of status = if status == 405 then allow_field methods.Read else []
-
-says_nothing : (name : List ℕ) (detail : Detail) → SaysNothing detail → refusal_fields name detail ≡ []
-unfolding refusal_fields
-says_nothing name details.None h = refl
-says_nothing name detail h = absurd h
-
-says_missing : (name : List ℕ) (detail : Detail) → SaysMissing detail → refusal_fields name detail ≡ []
-says_missing name (details.Missing digest) h = missing_own name digest
-says_missing name detail h = absurd h
-
-says_differ : (name : List ℕ) (detail : Detail) → SaysDiffer detail → refusal_fields name detail ≡ []
-says_differ name (details.Differ wanted found) h = differ_own name wanted found
-says_differ name detail h = absurd h
-
-says_methods : (name : List ℕ) (detail : Detail) → detail ≡ details.Allow methods.Read → refusal_fields name detail ≡ allow_field methods.Read
-unfolding refusal_fields
-says_methods name detail h = rw h refl
-
-pub own_is : (name : List ℕ) (code : Code) (detail : Detail) → code ≢ BlobUploadInvalid → HasDetail code detail → refusal_fields name detail ≡ own_of (status_of code)
-own_is name BlobUploadInvalid detail other h = absurd (other refl)
-own_is name ManifestBlobUnknown detail other h = says_missing name detail h
-own_is name Unsupported detail other h = says_methods name detail h
-own_is name UpstreamMismatch detail other h = says_differ name detail h
-own_is name UpstreamIncomplete detail other h = says_missing name detail h
-own_is name UpstreamInvalid detail other h = says_missing name detail h
-own_is name code detail other h = says_nothing name detail h

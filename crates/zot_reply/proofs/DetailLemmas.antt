@@ -1,8 +1,6 @@
--- What the bytes of refusals with a detail are.
-use Rattle.std.proofs.Common.{◌≡◌, ◌≢◌, ℕ, Bool, true, false, List, [], ◌∷◌, ◌++◌, length, Option, Some, refl, ap, ap₂, ◌∙◌}
-use Rattle.std.specs.Prelude.{IfOk, Result, Ok, Err, codes}
-use Rattle.std.specs.Borrow.{Bor}
-use Rattle.std.specs.Option.{option_copied}
+-- What the bodies of refusals with a detail are.
+use Rattle.std.proofs.Common.{◌≡◌, ◌≢◌, ℕ, Bool, true, false, List, [], ◌∷◌, ◌++◌, length, Some, refl, ap, ap₂, ◌∙◌}
+use Rattle.std.specs.Prelude.{codes}
 use Rattle.std.proofs.lemmas.List.{append_assoc}
 use Rattle.json.specs.Print.{escape, escape_byte}
 use Rattle.serde_json.specs.Written.{compact_text}
@@ -11,46 +9,13 @@ use Rattle.zot_model.specs.declared.code.Code.{Code}
 use Rattle.zot_model.specs.declared.code.Code.TheVariants.{BlobUploadInvalid, ManifestBlobUnknown, Unsupported, UpstreamIncomplete, UpstreamInvalid, UpstreamMismatch}
 use Rattle.zot_model.specs.declared.detail.Detail.{Detail}
 use Rattle.zot_model.specs.declared.detail.Detail.TheVariants as details
-use Rattle.zot_model.specs.Fits.{HasDetail, SaysDiffer, SaysMissing, SaysNothing, status_of}
+use Rattle.zot_model.specs.Codes.{HasDetail, SaysDiffer, SaysMissing, SaysNothing, SaysSession, code_text, message_text}
+use Rattle.zot_model.specs.Values.{IsRealDetail}
 use Rattle.zot_spell.specs.Alike.{AreUnseenAlike, IsDetail}
 use Rattle.zot_spell.specs.Bodies.{detail_text, error_body, errors_value}
-use Rattle.zot_spell.specs.Codes.{code_text, message_text}
-use Rattle.zot_spell.specs.Fields.{status_line}
-use Rattle.zot_reply.specs.Reading.{IsRealDetail, TellsMissing, detail_front, refusal_with}
-use Rattle.zot_spell.specs.Spelling.{body_lines, json_media, parts_of, refusal_fields, rest_of, shown_body, spelled}
-use Rattle.zot_spell.proofs.AlikeLemmas.{differ_plain, refused_alike}
+use Rattle.zot_reply.specs.Details.{TellsMissing, detail_front}
+use Rattle.zot_spell.proofs.AlikeLemmas.{differ_plain}
 use Rattle.zot_spell.proofs.PlainLemmas.{IsPlain, plain_digest, plain_text}
-
-pub missing_own : (name digest : List ℕ) → refusal_fields name (details.Missing digest) ≡ []
-unfolding refusal_fields
-missing_own name digest = refl
-
-pub differ_own : (name wanted found : List ℕ) → refusal_fields name (details.Differ wanted found) ≡ []
-unfolding refusal_fields
-differ_own name wanted found = refl
-
-nil_between : (a b : List ℕ) → a ++ [] ++ b ≡ a ++ b
-nil_between [] b = refl
-nil_between (c ∷ a) b = ap (λ (t : List ℕ). c ∷ t) (nil_between a b)
-
-drop_own : (a own b : List ℕ) → own ≡ [] → a ++ own ++ b ≡ a ++ b
-drop_own a own b h = ap (λ (t : List ℕ). a ++ t ++ b) h ∙ nil_between a b
-
-error_bytes : (name : List ℕ) (code : Code) (detail : Detail) (close : Bool) → refusal_fields name detail ≡ []
-    → spelled (parts_of name (refusal_with code detail)) false close
-    ≡ status_line (status_of code) ++ (body_lines (status_of code) (Some json_media) (length (error_body code detail)) close ++ error_body code detail)
-unfolding spelled parts_of rest_of shown_body
-error_bytes name code detail close own = drop_own (status_line (status_of code)) (refusal_fields name detail) _ own
-
--- the body that is found behind the status line is the refusal's
-pub error_found : {E : Type 0} (result : Result (Option (Bor (List ℕ))) E) (bytes start media : List ℕ) (status : ℕ) (code : Code) (close : Bool)
-    → IfOk result (λ found. (body : List ℕ) → bytes ≡ start ++ (body_lines status (Some media) (length body) close ++ body) → option_copied found ≡ Some body)
-    → start ≡ status_line (status_of code) → media ≡ json_media → status ≡ status_of code
-    → IfOk result (λ found. (name : List ℕ) (detail : Detail) → refusal_fields name detail ≡ []
-    → bytes ≡ spelled (parts_of name (refusal_with code detail)) false close → option_copied found ≡ Some (error_body code detail))
-error_found (Ok found) bytes start media status code close h s m t =
-    λ name detail own e. h (error_body code detail) (rw (s, m, t) (e ∙ error_bytes name code detail close own))
-error_found (Err e) bytes start media status code close h s m t = tt
 
 -- ---- the text of a detail in its body
 
@@ -74,11 +39,8 @@ detail_place code t message p q =
 front_assoc : (a c b t r : List ℕ) → a ++ (c ++ (b ++ (t ++ r))) ≡ (a ++ (c ++ b)) ++ (t ++ r)
 front_assoc a c b t r = simp append_assoc
 
-wanted_assoc : (a x w y f b : List ℕ) → a ++ ((x ++ w ++ y ++ f) ++ b) ≡ (a ++ x) ++ (w ++ (y ++ (f ++ b)))
-wanted_assoc a x w y f b = simp append_assoc
-
-found_assoc : (a x w y f b : List ℕ) → a ++ ((x ++ w ++ y ++ f) ++ b) ≡ (a ++ (x ++ (w ++ y))) ++ (f ++ b)
-found_assoc a x w y f b = simp append_assoc
+differ_assoc : (a x w y f b : List ℕ) → a ++ ((x ++ w ++ y ++ f) ++ b) ≡ a ++ (x ++ (w ++ (y ++ (f ++ b))))
+differ_assoc a x w y f b = simp append_assoc
 
 code_plain : (code : Code) → TellsMissing code → escape (code_text code) ≡ code_text code
 unfolding code_text escape_byte
@@ -105,15 +67,10 @@ differ_whole wanted found w f =
     detail_place (code_text UpstreamMismatch) (codes "expected " ++ digest_text wanted ++ codes " found " ++ digest_text found) (message_text UpstreamMismatch) mismatch_plain (differ_plain wanted found w f)
     ∙ front_assoc (codes "{\"errors\":[{\"code\":\"") (code_text UpstreamMismatch) (codes "\",\"detail\":\"") (codes "expected " ++ digest_text wanted ++ codes " found " ++ digest_text found) (detail_back UpstreamMismatch)
 
-pub wanted_place : (wanted found : List ℕ) → IsDigest wanted → IsDigest found
+pub differ_place : (wanted found : List ℕ) → IsDigest wanted → IsDigest found
     → error_body UpstreamMismatch (details.Differ wanted found)
-    ≡ (detail_front UpstreamMismatch ++ codes "expected ") ++ (digest_text wanted ++ (codes " found " ++ (digest_text found ++ detail_back UpstreamMismatch)))
-wanted_place wanted found w f = differ_whole wanted found w f ∙ wanted_assoc (detail_front UpstreamMismatch) (codes "expected ") (digest_text wanted) (codes " found ") (digest_text found) (detail_back UpstreamMismatch)
-
-pub found_place : (wanted found : List ℕ) → IsDigest wanted → IsDigest found
-    → error_body UpstreamMismatch (details.Differ wanted found)
-    ≡ (detail_front UpstreamMismatch ++ (codes "expected " ++ (digest_text wanted ++ codes " found "))) ++ (digest_text found ++ detail_back UpstreamMismatch)
-found_place wanted found w f = differ_whole wanted found w f ∙ found_assoc (detail_front UpstreamMismatch) (codes "expected ") (digest_text wanted) (codes " found ") (digest_text found) (detail_back UpstreamMismatch)
+    ≡ detail_front UpstreamMismatch ++ (codes "expected " ++ (digest_text wanted ++ (codes " found " ++ (digest_text found ++ detail_back UpstreamMismatch))))
+differ_place wanted found w f = differ_whole wanted found w f ∙ differ_assoc (detail_front UpstreamMismatch) (codes "expected ") (digest_text wanted) (codes " found ") (digest_text found) (detail_back UpstreamMismatch)
 
 -- ---- details that aren't shown
 
@@ -146,12 +103,13 @@ real_detail (details.Missing digest) h = h
 real_detail (details.Differ wanted found) h = h
 real_detail detail h = tt
 
--- to HEAD each detail of a code's kind has the same spelling
-pub unseen_covers : (name : List ℕ) (close : Bool) (bytes : List ℕ) (code : Code) (said : Detail) → code ≢ BlobUploadInvalid → HasDetail code said → IsDetail said
-    → (detail : Detail) → IsRealDetail detail → HasDetail code detail → bytes ≡ spelled (parts_of name (refusal_with code detail)) true close → bytes ≡ spelled (parts_of name (refusal_with code said)) true close
-unseen_covers name close bytes code said other has digests detail real kind e =
-    e ∙ refused_alike name (status_of code) code detail said true close (real_detail detail real) digests (unseen_kind code detail said other kind has)
+-- an upload's detail has that code alone
+pub not_session : (code : Code) (detail : Detail) → code ≢ BlobUploadInvalid → HasDetail code detail → SaysSession detail → ⊥
+not_session BlobUploadInvalid detail other h s = other refl
+not_session Unsupported (details.Session id size) other h s = cc h
+not_session code (details.Session id size) other h s = absurd h
+not_session code detail other h s = absurd s
 
--- the bytes are the refusal with the detail that is told
-abbrev pub IsTold : List ℕ → Bool → Bool → List ℕ → Code → Detail → Type 0
-IsTold name head close bytes code detail = bytes ≡ spelled (parts_of name (refusal_with code detail)) head close
+pub front_pieces : (code : Code) (rest : List ℕ) → detail_front code ++ rest ≡ codes "{\"errors\":[{\"code\":\"" ++ (code_text code ++ (codes "\",\"detail\":\"" ++ rest))
+unfolding detail_front
+front_pieces code rest = simp append_assoc

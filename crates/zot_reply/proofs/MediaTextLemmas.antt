@@ -7,7 +7,7 @@ use Rattle.zot_digest.proofs.DigestLemmas.{passes-at}
 use Rattle.zot_media.specs.declared.media.Media.{Media}
 use Rattle.zot_media.specs.declared.media.Media.TheVariants.{DockerImage, DockerList, Image, Index}
 use Rattle.zot_media.specs.Media.{media_text}
-use Rattle.zot_reply.specs.Reading.{IsFree}
+use Rattle.zot_spell.specs.Heads.{IsFree}
 
 free_by : (text : List ℕ) (k : ℕ) → not (slice_index text k == 13) ≡ true → (slice_index text k == 13) ≡ false
 free_by text k h = grind (arith, nat_tests)

@@ -8,28 +8,10 @@ use Rattle.hex.specs.Hex.{lower_digits}
 use Rattle.zot_digest.proofs.DigestLemmas.{passes-at}
 use Rattle.zot_names.specs.Upload.{upload_text}
 use Rattle.std.specs.Fmt.{decimal, digit_glyph, digits, digits_onto}
-use Rattle.std.specs.List.{before_first, position_or_len}
-use Rattle.std.proofs.Math.Seq.{take-append_seam}
-use Rattle.std.proofs.Math.ListN.{get_or-append}
 use Rattle.std.proofs.lemmas.Bool.{cases_lt}
 use Rattle.std.proofs.lemmas.Bool.Decides.{nat_tests}
-use Rattle.std.proofs.lemmas.List.{get_or_past, length-append}
-use Rattle.std.proofs.lemmas.List.Sums.{position_or_len_is}
-use Rattle.zot_reply.specs.Reading.{IsFree}
-
-at_seam : (text rest : List ℕ) (end : ℕ) → get_or (text ++ (end ∷ rest)) (length text) 0 ≡ end
-at_seam [] rest end = refl
-at_seam (c ∷ text) rest end = at_seam text rest end
-
--- a text that is free of its end stands before it
-pub before_end : (end : ℕ) (text rest : List ℕ) → IsFree end text → before_first (λ (b : ℕ). b == end) (text ++ (end ∷ rest)) ≡ text
-before_end end text rest free =
-    let all = text ++ (end ∷ rest) in
-    let place : position_or_len (λ (b : ℕ). b == end) all ≡ length text =
-    position_or_len_is (λ (b : ℕ). b == end) all (length text) 0 (simp length-append (omega arith))
-    (λ k lt. rw (get_or-append text (end ∷ rest) 0 k lt) (free k lt))
-    (λ lt. rw (at_seam text rest end) (grind (arith, nat_tests))) in
-    rw place (take-append_seam text (end ∷ rest))
+use Rattle.std.proofs.lemmas.List.{get_or_past}
+use Rattle.zot_spell.specs.Heads.{IsFree}
 
 apart : (end c : ℕ) → end < 48 → 48 ≤ c → (c == end) ≡ false
 apart end c low high = grind (arith, nat_tests)

@@ -1,263 +1,278 @@
 -- Replies of one kind that have the same bytes.
-use Rattle.std.proofs.Common.{◌≡◌, ℕ, ◌-◌, ◌<◌, ◌^◌, Bool, true, false, List, [], ◌∷◌, ◌++◌, length, drop, Option, Some, None, refl, sym, ap, ap₂, ◌∙◌, arith, slice_index}
-use Rattle.std.specs.Prelude.{IfSome, codes}
+use Rattle.std.proofs.Common.{◌≡◌, ℕ, ◌-◌, ◌<◌, ◌^◌, ◌==◌, Bool, true, false, List, [], ◌∷◌, ◌++◌, length, take, drop, Option, Some, None, refl, sym, ap, ap₂, subst, ◌∙◌, ◌⊎◌, inl, inr, arith, slice_index}
+use Rattle.std.specs.Prelude.{IfSome, codes, option_and_then, option_map, is_some}
 use Rattle.std.specs.Fmt.{decimal}
+use Rattle.std.specs.Int.{w64, from_be_bytes, to_be_bytes}
 use Rattle.std.specs.List.{AllByRecursion}
 use Rattle.std.proofs.lemmas.Fmt.{decimal_injective}
 use Rattle.std.proofs.lemmas.List.{append_assoc}
-use Rattle.serde_json.specs.Written.{comma_if}
-use Rattle.zot_digest.specs.Digest.{IsDigest, digest_text}
+use Rattle.std.proofs.lemmas.Nat.{from_be_bytes-to_be_bytes_8}
+use Rattle.hex.specs.Hex.{decode_sized}
+use Rattle.zot_digest.proofs.DigestLemmas.{digest_named-digest_text}
+use Rattle.zot_digest.specs.Digest.{IsDigest, digest_named, digest_text}
+use Rattle.zot_media.proofs.MediaLemmas.{named_text}
 use Rattle.zot_media.specs.declared.media.Media.{Media}
-use Rattle.zot_media.specs.declared.media.Media.TheVariants.{Index}
-use Rattle.zot_media.specs.Media.{media_text}
+use Rattle.zot_media.specs.Media.{media_named, media_text}
 use Rattle.zot_model.specs.declared.reply.Reply.{Reply}
 use Rattle.zot_model.specs.declared.reply.Reply.TheVariants as replies
+use Rattle.zot_model.specs.Fits.{IsBlob, IsBlobHead, IsBlobMade, IsDeleted, IsManifest, IsManifestHead, IsManifestMade, IsPage, IsReferrers, IsSession}
+use Rattle.zot_model.specs.Values.{IsReal}
+use Rattle.zot_names.proofs.UploadLemmas.{decode_sized-upload_text}
 use Rattle.zot_names.specs.Tag.{IsTag}
 use Rattle.zot_names.specs.Upload.{upload_text}
 use Rattle.zot_spell.specs.Alike.{AreAlike, AreSizesAlike}
 use Rattle.zot_spell.specs.Bodies.{page_body}
-use Rattle.zot_spell.specs.Fields.{crlf, digest_field, filter_field, length_field, link_field, range_field, range_text, size_field, status_line, subject_field, type_field, upload_field, upload_fields}
-use Rattle.zot_spell.specs.Spelling.{body_lines, byte_media, json_media, parts_of, spelled}
-use Rattle.zot_reply.proofs.CutLemmas.{cut_front, same_body, same_digest, same_digest_field, same_ended, same_id, same_named_body}
-use Rattle.zot_reply.proofs.FoundLemmas.{ap₃, behind_id, behind_place, blob_bytes, blob_head_bytes, blob_made_bytes, id_front, id_place, index_bytes, made_place, manifest_bytes, manifest_front, manifest_head_bytes, manifest_made_bytes, session_bytes}
-use Rattle.zot_reply.proofs.PageLemmas.{behind_number, behind_tag, last_alike, number_bytes, page_bytes, page_is, page_rest, tag_free_of_end, tag_free_of_quote, number_front}
+use Rattle.zot_spell.specs.declared.field.Field.{Field}
+use Rattle.zot_spell.specs.declared.field_name.FieldName.TheVariants as names
+use Rattle.zot_spell.specs.Fields.{blob_place, closing_fields, digest_field, length_fields, link_fields, manifest_place, range_text, status_line, subject_fields, upload_fields, upload_place}
+use Rattle.zot_spell.specs.Heads.{AreFields, IsFree, field_of, fields_text, name_text, type_fields, value_in}
+use Rattle.zot_spell.specs.Spelling.{all_fields, head_of, head_text, json_media, parts_of, shown_body, spelled}
+use Rattle.zot_spell.proofs.CutLemmas.{cut_front, free_append, free_cons, same_ended}
+use Rattle.zot_spell.proofs.SplitLemmas.{digits_at, same_digits}
+use Rattle.zot_reply.proofs.FieldLemmas.{all_are, digest_free, free_by_test, free_nil, json_free, number_free, rest_are, same_fields, same_placed, upload_free}
+use Rattle.zot_reply.proofs.PageLemmas.{link_front, link_is, link_rest, same_pages, tag_free_of_cr, tag_free_of_end}
 use Rattle.zot_reply.proofs.ReadingLemmas.{decimal_free}
-use Rattle.zot_reply.specs.Reading.{IsBlob, IsBlobHead, IsBlobMade, IsManifest, IsManifestHead, IsManifestMade, IsPage, IsReal, IsReferrers, IsSession, page_front, tags_text}
+use Rattle.zot_reply.proofs.ToldLemmas.{digest_of_blob, digest_of_head, digest_of_manifest, digest_of_manifest_head, fields_of, filter_of_index, media_of_manifest, media_of_manifest_head, range_of_upload, size_of_head, size_of_manifest_head, subject_of_manifest_made}
 
--- the replies have the same bytes
+-- replies with the same bytes, on the repository of the name
 abbrev pub AreSpelledAlike : List ℕ → Bool → Bool → Bool → Reply → Reply → Type 0
-AreSpelledAlike name head close other a b = spelled (parts_of name a) head close ≡ spelled (parts_of name b) head other
+AreSpelledAlike name head c k a b = spelled (parts_of name a) head c ≡ spelled (parts_of name b) head k
+
+-- ---- values with the same texts
+
+some_back : {A : Type 0} (a x : A) → Some a ≡ Some x → a ≡ x
+some_back a x h = cc h
+
+pub same_digest : (d f : List ℕ) → IsDigest d → IsDigest f → digest_text d ≡ digest_text f → d ≡ f
+same_digest d f x y e = some_back d f (sym (digest_named-digest_text d x) ∙ ap digest_named e ∙ digest_named-digest_text f y)
+
+same_told : (d f : List ℕ) → IsDigest d → IsDigest f → Some (digest_text d) ≡ Some (digest_text f) → d ≡ f
+same_told d f x y e = same_digest d f x y (some_back (digest_text d) (digest_text f) e)
+
+same_size : (n m : ℕ) → n < 2 ^ 64 → m < 2 ^ 64 → Some (decimal n) ≡ Some (decimal m) → n ≡ m
+same_size n m x y e = decimal_injective n m x y (some_back (decimal n) (decimal m) e)
+
+pub same_id : (i j : ℕ) → i < 2 ^ 64 → j < 2 ^ 64 → upload_text i ≡ upload_text j → i ≡ j
+same_id i j x y e =
+    let bytes : to_be_bytes w64 i ≡ to_be_bytes w64 j = cc (decode_sized-upload_text i, ap (λ (t : List ℕ). decode_sized t 8) e, decode_sized-upload_text j) in
+    sym (from_be_bytes-to_be_bytes_8 i x) ∙ ap (from_be_bytes w64) bytes ∙ from_be_bytes-to_be_bytes_8 j y
+
+same_media : (media other : Media) → Some (media_text media) ≡ Some (media_text other) → media ≡ other
+same_media media other e =
+    some_back media other (sym (named_text media) ∙ ap media_named (some_back (media_text media) (media_text other) e) ∙ named_text other)
+
+pub same_range : (n m : ℕ) → n < 2 ^ 64 → m < 2 ^ 64 → Some (range_text n) ≡ Some (range_text m) → AreSizesAlike n m
+unfolding range_text
+same_range n m x y e = decimal_injective (n - 1) (m - 1) (omega (arith, x)) (omega (arith, y)) (cut_front (codes "0-") (decimal (n - 1)) (decimal (m - 1)) (some_back (range_text n) (range_text m) e))
+
+-- ---- the same statuses, fields and bodies
+
+pub same_status : (s t : ℕ) (a b : List ℕ) → s < 1000 → t < 1000 → status_line s ++ a ≡ status_line t ++ b → s ≡ t
+same_status s t a b x y e = same_digits s t x y (sym (digits_at s a) ∙ ap (λ (l : List ℕ). take 3 (drop 9 l)) e ∙ digits_at t b)
+
+-- the status of a reply on the repository of the name
+abbrev pub status_in : List ℕ → Reply → ℕ
+status_in name reply = (parts_of name reply).status
+
+-- what comes after the status line
+abbrev pub after_status : List ℕ → Reply → Bool → Bool → List ℕ
+after_status name reply head close = fields_text (fields_of name reply close) ++ shown_body head (parts_of name reply).body
+
+pub bytes_are : (name : List ℕ) (reply : Reply) (head close : Bool) → spelled (parts_of name reply) head close ≡ status_line (status_in name reply) ++ after_status name reply head close
+unfolding spelled head_of head_text
+bytes_are name reply head close = append_assoc (status_line (status_in name reply)) (fields_text (fields_of name reply close)) (shown_body head (parts_of name reply).body)
+
+pub told_alike : (name : List ℕ) (a b : Reply) (head c k : Bool) → status_in name a < 1000 → status_in name b < 1000 → AreSpelledAlike name head c k a b → status_in name a ≡ status_in name b
+told_alike name a b head c k x y e =
+    same_status (status_in name a) (status_in name b) (after_status name a head c) (after_status name b head k) x y (sym (bytes_are name a head c) ∙ e ∙ bytes_are name b head k)
+
+pub lines_alike : (name : List ℕ) (a b : Reply) (head c k : Bool) → status_in name a ≡ status_in name b → AreSpelledAlike name head c k a b → after_status name a head c ≡ after_status name b head k
+lines_alike name a b head c k s e =
+    cut_front (status_line (status_in name a)) (after_status name a head c) (after_status name b head k)
+    (sym (bytes_are name a head c) ∙ e ∙ bytes_are name b head k ∙ ap (λ (n : ℕ). status_line n ++ after_status name b head k) (sym s))
+
+pub fields_alike : (name : List ℕ) (a b : Reply) (head c k : Bool) → AreFields (fields_of name a c) → AreFields (fields_of name b k) → status_in name a ≡ status_in name b → AreSpelledAlike name head c k a b
+    → (fields_of name a c ≡ fields_of name b k) × (shown_body head (parts_of name a).body ≡ shown_body head (parts_of name b).body)
+fields_alike name a b head c k f g s e =
+    same_fields (fields_of name a c) (fields_of name b k) (shown_body head (parts_of name a).body) (shown_body head (parts_of name b).body) f g (lines_alike name a b head c k s e)
 
 -- ---- blobs
 
--- the lines of a body of bytes, and the body
-abbrev blob_rest : ℕ → Bool → List ℕ → List ℕ
-blob_rest size close body = body_lines 200 (Some byte_media) size close ++ body
-
-same_blob : (name d f body text : List ℕ) (c k : Bool) → IsDigest d → IsDigest f → AreSpelledAlike name false c k (replies.Blob d body) (replies.Blob f text) → replies.Blob d body ≡ replies.Blob f text
-same_blob name d f body text c k x y e =
-    let own = cut_front (status_line 200) (digest_field d ++ blob_rest (length body) c body) (digest_field f ++ blob_rest (length text) k text) (sym (blob_bytes name d body c) ∙ e ∙ blob_bytes name f text k) in
-    let digest = same_digest_field d f (blob_rest (length body) c body) (blob_rest (length text) k text) x y own in
-    ap₂ replies.Blob digest.0 (same_body 200 byte_media (length body) (length text) c k body text refl digest.1).1
-
 pub blobs_alike : (name : List ℕ) (a b : Reply) (c k : Bool) → IsBlob a → IsBlob b → IsReal a → IsReal b → AreSpelledAlike name false c k a b → AreAlike false a b
-blobs_alike name (replies.Blob d body) (replies.Blob f text) c k i j x y e = same_blob name d f body text c k x y e
-blobs_alike name (replies.Blob d body) b c k i j x y e = absurd j
+unfolding parts_of shown_body
+blobs_alike name (replies.Blob d v) (replies.Blob f w) c k i j x y e =
+    let s = fields_alike name (replies.Blob d v) (replies.Blob f w) false c k (all_are [] (replies.Blob d v) c (free_nil 13) x) (all_are [] (replies.Blob f w) k (free_nil 13) y) refl e in
+    ap₂ replies.Blob (same_told d f x y (sym (digest_of_blob name d v c) ∙ ap (value_in (name_text names.ContentDigest)) s.0 ∙ digest_of_blob name f w k)) s.1
+blobs_alike name (replies.Blob d v) b c k i j x y e = absurd j
 blobs_alike name a b c k i j x y e = absurd i
 
-same_blob_head : (name d f : List ℕ) (n m : ℕ) (c k : Bool) → IsDigest d → IsDigest f → n < 2 ^ 64 → m < 2 ^ 64
-    → AreSpelledAlike name true c k (replies.BlobHead d n) (replies.BlobHead f m) → replies.BlobHead d n ≡ replies.BlobHead f m
-same_blob_head name d f n m c k x y p q e =
-    let own = cut_front (status_line 200) (digest_field d ++ blob_rest n c []) (digest_field f ++ blob_rest m k []) (sym (blob_head_bytes name d n c) ∙ e ∙ blob_head_bytes name f m k) in
-    let digest = same_digest_field d f (blob_rest n c []) (blob_rest m k []) x y own in
-    ap₂ replies.BlobHead digest.0 (decimal_injective n m p q (same_body 200 byte_media n m c k [] [] refl digest.1).0)
+pub heads_alike : (name : List ℕ) (a b : Reply) (c k : Bool) → IsBlobHead a → IsBlobHead b → IsReal a → IsReal b → AreSpelledAlike name true c k a b → AreAlike true a b
+unfolding parts_of
+heads_alike name (replies.BlobHead d n) (replies.BlobHead f m) c k i j x y e =
+    let s = fields_alike name (replies.BlobHead d n) (replies.BlobHead f m) true c k (all_are [] (replies.BlobHead d n) c (free_nil 13) x) (all_are [] (replies.BlobHead f m) k (free_nil 13) y) refl e in
+    ap₂ replies.BlobHead (same_told d f x.0 y.0 (sym (digest_of_head name d n c) ∙ ap (value_in (name_text names.ContentDigest)) s.0 ∙ digest_of_head name f m k))
+    (same_size n m x.1 y.1 (sym (size_of_head name d n c) ∙ ap (value_in (name_text names.ContentLength)) s.0 ∙ size_of_head name f m k))
+heads_alike name (replies.BlobHead d n) b c k i j x y e = absurd j
+heads_alike name a b c k i j x y e = absurd i
 
-pub blob_heads_alike : (name : List ℕ) (a b : Reply) (c k : Bool) → IsBlobHead a → IsBlobHead b → IsReal a → IsReal b → AreSpelledAlike name true c k a b → AreAlike true a b
-blob_heads_alike name (replies.BlobHead d n) (replies.BlobHead f m) c k i j x y e = same_blob_head name d f n m c k x.0 y.0 x.1 y.1 e
-blob_heads_alike name (replies.BlobHead d n) b c k i j x y e = absurd j
-blob_heads_alike name a b c k i j x y e = absurd i
+-- the fields after the place of a blob that was stored
+abbrev made_rest : List ℕ → Bool → List Field
+made_rest digest close = digest_field digest ∷ (type_fields None ++ (length_fields 201 0 ++ closing_fields close))
 
--- the own fields of a blob that was stored, through the place of its name
-abbrev blob_front : List ℕ → List ℕ
-blob_front name = status_line 201 ++ codes "Location: " ++ codes "/v2/" ++ name ++ codes "/blobs/"
+made_rest_are : (digest : List ℕ) (close : Bool) → IsDigest digest → AreFields (made_rest digest close)
+unfolding parts_of all_fields
+made_rest_are digest close is = (all_are [] (replies.BlobMade digest) close (free_nil 13) is).1
 
--- what stands behind the digest in its place
-abbrev behind_blob : List ℕ → Bool → List ℕ
-behind_blob digest close = crlf ++ (digest_field digest ++ (body_lines 201 None 0 close ++ []))
-
-pub same_blob_made : (name d f : List ℕ) (head c k : Bool) → IsDigest d → IsDigest f → AreSpelledAlike name false c k (replies.BlobMade d) (replies.BlobMade f)
-    → AreAlike head (replies.BlobMade d) (replies.BlobMade f)
-same_blob_made name d f head c k x y e =
-    let place = cut_front (blob_front name) (digest_text d ++ behind_blob d c) (digest_text f ++ behind_blob f k) (sym (blob_made_bytes name d c) ∙ e ∙ blob_made_bytes name f k) in
-    ap replies.BlobMade (same_digest d f (behind_blob d c) (behind_blob f k) x y place).0
-
-pub blobs_made_alike : (name : List ℕ) (a b : Reply) (c k : Bool) → IsBlobMade a → IsBlobMade b → IsReal a → IsReal b → AreSpelledAlike name false c k a b → AreAlike false a b
-blobs_made_alike name (replies.BlobMade d) (replies.BlobMade f) c k i j x y e = same_blob_made name d f false c k x y e
-blobs_made_alike name (replies.BlobMade d) b c k i j x y e = absurd j
-blobs_made_alike name a b c k i j x y e = absurd i
+pub made_alike : (name : List ℕ) (a b : Reply) (c k : Bool) → IsBlobMade a → IsBlobMade b → IsReal a → IsReal b → AreSpelledAlike name false c k a b → AreAlike false a b
+unfolding parts_of all_fields shown_body blob_place
+made_alike name (replies.BlobMade d) (replies.BlobMade f) c k i j x y e =
+    let s = same_placed names.Location (codes "/v2/" ++ name ++ codes "/blobs/") (digest_text d) (digest_text f) (made_rest d c) (made_rest f k) [] [] (digest_free d) (digest_free f) (made_rest_are d c x) (made_rest_are f k y)
+    (lines_alike name (replies.BlobMade d) (replies.BlobMade f) false c k refl e) in
+    ap replies.BlobMade (same_digest d f x y s.0)
+made_alike name (replies.BlobMade d) b c k i j x y e = absurd j
+made_alike name a b c k i j x y e = absurd i
 
 -- ---- uploads
 
-range_is : (size : ℕ) (rest : List ℕ) → range_field size ++ rest ≡ codes "Range: " ++ (codes "0-" ++ (decimal (size - 1) ++ (13 ∷ (10 ∷ rest))))
-unfolding range_field range_text
-range_is size rest = simp append_assoc
+-- the fields after the place of an upload, and those after its own
+abbrev pub upload_rest : ℕ → ℕ → List Field → List Field
+upload_rest id size rest = field_of names.Range (range_text size) ∷ (field_of names.UploadId (upload_text id) ∷ rest)
 
-pub same_range : (n m : ℕ) (a b : List ℕ) → n < 2 ^ 64 → m < 2 ^ 64 → range_field n ++ a ≡ range_field m ++ b → AreSizesAlike n m
-same_range n m a b x y e =
-    let named = cut_front (codes "Range: ") (codes "0-" ++ (decimal (n - 1) ++ (13 ∷ (10 ∷ a)))) (codes "0-" ++ (decimal (m - 1) ++ (13 ∷ (10 ∷ b)))) (sym (range_is n a) ∙ e ∙ range_is m b) in
-    let number = cut_front (codes "0-") (decimal (n - 1) ++ (13 ∷ (10 ∷ a))) (decimal (m - 1) ++ (13 ∷ (10 ∷ b))) named in
-    let s = same_ended 13 (decimal (n - 1)) (decimal (m - 1)) (10 ∷ a) (10 ∷ b) (decimal_free 13 (n - 1) (omega arith)) (decimal_free 13 (m - 1) (omega arith)) number in
-    decimal_injective (n - 1) (m - 1) (omega (arith, x)) (omega (arith, y)) s.0
+-- replies that begin with the fields of an upload
+pub same_upload : (name : List ℕ) (i j n m : ℕ) (f g : List Field) (b c : List ℕ) → i < 2 ^ 64 → j < 2 ^ 64 → n < 2 ^ 64 → m < 2 ^ 64 → AreFields (upload_rest i n f) → AreFields (upload_rest j m g)
+    → fields_text (upload_fields name i n ++ f) ++ b ≡ fields_text (upload_fields name j m ++ g) ++ c → (i ≡ j) × AreSizesAlike n m
+unfolding upload_fields upload_place field_of name_text
+same_upload name i j n m f g b c x y p q h k e =
+    let s = same_placed names.Location (codes "/v2/" ++ name ++ codes "/blobs/uploads/") (upload_text i) (upload_text j) (upload_rest i n f) (upload_rest j m g) b c (upload_free i) (upload_free j) h k e in
+    (same_id i j x y s.0, same_range n m p q (ap (value_in (name_text names.Range)) s.1))
 
-pub same_upload : (name : List ℕ) (status i j n m : ℕ) (a b : List ℕ) → i < 2 ^ 64 → j < 2 ^ 64 → n < 2 ^ 64 → m < 2 ^ 64
-    → status_line status ++ (upload_fields name i n ++ a) ≡ status_line status ++ (upload_fields name j m ++ b) → (i ≡ j) × AreSizesAlike n m
-same_upload name status i j n m a b x y p q e =
-    let place = cut_front (id_front name status) (upload_text i ++ behind_id i n a) (upload_text j ++ behind_id j m b) (sym (id_place name status i n a) ∙ e ∙ id_place name status j m b) in
-    let id = same_id i j (behind_id i n a) (behind_id j m b) x y place in
-    let range = cut_front crlf (range_field n ++ (upload_field i ++ a)) (range_field m ++ (upload_field j ++ b)) id.1 in
-    (id.0, same_range n m (upload_field i ++ a) (upload_field j ++ b) p q range)
+-- the fields after those of an upload
+abbrev session_rest : ℕ → Bool → List Field
+session_rest status close = type_fields None ++ (length_fields status 0 ++ closing_fields close)
 
--- the lines of an upload behind its own
-abbrev session_end : ℕ → Bool → List ℕ
-session_end status close = body_lines status None 0 close ++ []
-
-pub same_session : (name : List ℕ) (status i j n m : ℕ) (head c k : Bool) → i < 2 ^ 64 → j < 2 ^ 64 → n < 2 ^ 64 → m < 2 ^ 64
-    → AreSpelledAlike name false c k (replies.Session i n status) (replies.Session j m status) → AreAlike head (replies.Session i n status) (replies.Session j m status)
-same_session name status i j n m head c k x y p q e =
-    let s = same_upload name status i j n m (session_end status c) (session_end status k) x y p q (sym (session_bytes name i n status c) ∙ e ∙ session_bytes name j m status k) in
-    (s.0, s.1, refl)
+session_rest_are : (id size status : ℕ) (close : Bool) → id < 2 ^ 64 → size < 2 ^ 64 → AreFields (upload_rest id size (session_rest status close))
+unfolding parts_of all_fields upload_fields
+session_rest_are id size status close x y = (all_are [] (replies.Session id size status) close (free_nil 13) (x, y)).1
 
 pub sessions_alike : (status : ℕ) (name : List ℕ) (a b : Reply) (c k : Bool) → IsSession status a → IsSession status b → IsReal a → IsReal b → AreSpelledAlike name false c k a b → AreAlike false a b
+unfolding parts_of all_fields
 sessions_alike status name (replies.Session i n s) (replies.Session j m t) c k h g x y e =
-    let one = ap (λ (r : ℕ). spelled (parts_of name (replies.Session i n r)) false c) (sym h) ∙ e ∙ ap (λ (r : ℕ). spelled (parts_of name (replies.Session j m r)) false k) g in
-    let alike = same_session name status i j n m false c k x.0 y.0 x.1 y.1 one in
-    (alike.0, alike.1, h ∙ sym g)
+    let same : s ≡ t = h ∙ sym g in
+    let u = same_upload name i j n m (session_rest s c) (session_rest t k) (shown_body false []) (shown_body false []) x.0 y.0 x.1 y.1 (session_rest_are i n s c x.0 x.1) (session_rest_are j m t k y.0 y.1)
+    (lines_alike name (replies.Session i n s) (replies.Session j m t) false c k same e) in
+    (u.0, u.1, same)
 sessions_alike status name (replies.Session i n s) b c k h g x y e = absurd g
 sessions_alike status name a b c k h g x y e = absurd h
 
 -- ---- manifests
 
--- the lines of a manifest's body, and the body
-abbrev manifest_rest : Media → ℕ → Bool → List ℕ → List ℕ
-manifest_rest media size close body = body_lines 200 (Some (media_text media)) size close ++ body
-
-same_manifest : (name d f body text : List ℕ) (u v : Media) (c k : Bool) → IsDigest d → IsDigest f
-    → AreSpelledAlike name false c k (replies.Manifest d u body) (replies.Manifest f v text) → replies.Manifest d u body ≡ replies.Manifest f v text
-same_manifest name d f body text u v c k x y e =
-    let own = cut_front (status_line 200) (digest_field d ++ manifest_rest u (length body) c body) (digest_field f ++ manifest_rest v (length text) k text)
-    (sym (manifest_bytes name d body u c) ∙ e ∙ manifest_bytes name f text v k) in
-    let digest = same_digest_field d f (manifest_rest u (length body) c body) (manifest_rest v (length text) k text) x y own in
-    let s = same_named_body u v (length body) (length text) c k body text digest.1 in
-    ap₃ replies.Manifest digest.0 s.0 s.2
-
 pub manifests_alike : (name : List ℕ) (a b : Reply) (c k : Bool) → IsManifest a → IsManifest b → IsReal a → IsReal b → AreSpelledAlike name false c k a b → AreAlike false a b
-manifests_alike name (replies.Manifest d u body) (replies.Manifest f v text) c k i j x y e = same_manifest name d f body text u v c k x y e
-manifests_alike name (replies.Manifest d u body) b c k i j x y e = absurd j
+unfolding parts_of shown_body
+manifests_alike name (replies.Manifest d u v) (replies.Manifest f t w) c k i j x y e =
+    let s = fields_alike name (replies.Manifest d u v) (replies.Manifest f t w) false c k (all_are [] (replies.Manifest d u v) c (free_nil 13) x) (all_are [] (replies.Manifest f t w) k (free_nil 13) y) refl e in
+    let digest = same_told d f x y (sym (digest_of_manifest name d u v c) ∙ ap (value_in (name_text names.ContentDigest)) s.0 ∙ digest_of_manifest name f t w k) in
+    let media = same_media u t (sym (media_of_manifest name d u v c) ∙ ap (value_in (name_text names.ContentType)) s.0 ∙ media_of_manifest name f t w k) in
+    ap₂ (λ (r : List ℕ × Media) (z : List ℕ). replies.Manifest r.0 r.1 z) (ap₂ (λ (r : List ℕ) (z : Media). (r, z)) digest media) s.1
+manifests_alike name (replies.Manifest d u v) b c k i j x y e = absurd j
 manifests_alike name a b c k i j x y e = absurd i
 
-same_manifest_head : (name d f : List ℕ) (u v : Media) (n m : ℕ) (c k : Bool) → IsDigest d → IsDigest f → n < 2 ^ 64 → m < 2 ^ 64
-    → AreSpelledAlike name true c k (replies.ManifestHead d u n) (replies.ManifestHead f v m) → replies.ManifestHead d u n ≡ replies.ManifestHead f v m
-same_manifest_head name d f u v n m c k x y p q e =
-    let own = cut_front (status_line 200) (digest_field d ++ manifest_rest u n c []) (digest_field f ++ manifest_rest v m k [])
-    (sym (manifest_head_bytes name d u n c) ∙ e ∙ manifest_head_bytes name f v m k) in
-    let digest = same_digest_field d f (manifest_rest u n c []) (manifest_rest v m k []) x y own in
-    let s = same_named_body u v n m c k [] [] digest.1 in
-    ap₃ replies.ManifestHead digest.0 s.0 (decimal_injective n m p q s.1)
-
 pub manifest_heads_alike : (name : List ℕ) (a b : Reply) (c k : Bool) → IsManifestHead a → IsManifestHead b → IsReal a → IsReal b → AreSpelledAlike name true c k a b → AreAlike true a b
-manifest_heads_alike name (replies.ManifestHead d u n) (replies.ManifestHead f v m) c k i j x y e = same_manifest_head name d f u v n m c k x.0 y.0 x.1 y.1 e
+unfolding parts_of
+manifest_heads_alike name (replies.ManifestHead d u n) (replies.ManifestHead f t m) c k i j x y e =
+    let s = fields_alike name (replies.ManifestHead d u n) (replies.ManifestHead f t m) true c k (all_are [] (replies.ManifestHead d u n) c (free_nil 13) x) (all_are [] (replies.ManifestHead f t m) k (free_nil 13) y) refl e in
+    let digest = same_told d f x.0 y.0 (sym (digest_of_manifest_head name d u n c) ∙ ap (value_in (name_text names.ContentDigest)) s.0 ∙ digest_of_manifest_head name f t m k) in
+    let media = same_media u t (sym (media_of_manifest_head name d u n c) ∙ ap (value_in (name_text names.ContentType)) s.0 ∙ media_of_manifest_head name f t m k) in
+    let size = same_size n m x.1 y.1 (sym (size_of_manifest_head name d u n c) ∙ ap (value_in (name_text names.ContentLength)) s.0 ∙ size_of_manifest_head name f t m k) in
+    ap₂ (λ (r : List ℕ × Media) (z : ℕ). replies.ManifestHead r.0 r.1 z) (ap₂ (λ (r : List ℕ) (z : Media). (r, z)) digest media) size
 manifest_heads_alike name (replies.ManifestHead d u n) b c k i j x y e = absurd j
 manifest_heads_alike name a b c k i j x y e = absurd i
 
--- the lines of such a reply behind its own
-abbrev made_end : Bool → List ℕ
-made_end close = body_lines 201 None 0 close ++ []
+-- the fields after the place of a manifest that was stored
+abbrev manifest_rest : List ℕ → Option (List ℕ) → Bool → List Field
+manifest_rest digest subject close = digest_field digest ∷ (subject_fields subject ++ (type_fields None ++ (length_fields 201 0 ++ closing_fields close)))
 
-subject_is : (digest rest : List ℕ) → subject_field (Some digest) ++ rest ≡ codes "OCI-Subject: " ++ (digest_text digest ++ (13 ∷ (10 ∷ rest)))
-unfolding subject_field
-subject_is digest rest = simp append_assoc
+manifest_rest_are : (digest : List ℕ) (subject : Option (List ℕ)) (close : Bool) → IsDigest digest → IfSome subject IsDigest → AreFields (manifest_rest digest subject close)
+unfolding parts_of all_fields
+manifest_rest_are digest subject close is of = (all_are [] (replies.ManifestMade digest subject) close (free_nil 13) (is, of)).1
 
-same_subject : (s t : Option (List ℕ)) (c k : Bool) → IfSome s IsDigest → IfSome t IsDigest → subject_field s ++ made_end c ≡ subject_field t ++ made_end k → s ≡ t
-unfolding subject_field body_lines type_field length_field size_field
-same_subject None None c k x y e = refl
-same_subject (Some d) (Some f) c k x y e =
-    let named = cut_front (codes "OCI-Subject: ") (digest_text d ++ (13 ∷ (10 ∷ made_end c))) (digest_text f ++ (13 ∷ (10 ∷ made_end k))) (sym (subject_is d (made_end c)) ∙ e ∙ subject_is f (made_end k)) in
-    ap Some (same_digest d f (13 ∷ (10 ∷ made_end c)) (13 ∷ (10 ∷ made_end k)) x y named).0
-same_subject None (Some f) c k x y e = let first : 67 ≡ 79 = ap (λ (l : List ℕ). slice_index l 0) e in absurd (omega (arith, first))
-same_subject (Some d) None c k x y e = let first : 79 ≡ 67 = ap (λ (l : List ℕ). slice_index l 0) e in absurd (omega (arith, first))
+-- the place isn't the subject
+subject_of_rest : (digest : List ℕ) (subject : Option (List ℕ)) (close : Bool) → value_in (name_text names.Subject) (manifest_rest digest subject close) ≡ option_map digest_text subject
+unfolding parts_of all_fields field_of name_text
+subject_of_rest digest subject close = subject_of_manifest_made [] digest subject close
 
-same_manifest_made : (name d f : List ℕ) (s t : Option (List ℕ)) (c k : Bool) → IsDigest d → IsDigest f → IfSome s IsDigest → IfSome t IsDigest
-    → AreSpelledAlike name false c k (replies.ManifestMade d s) (replies.ManifestMade f t) → replies.ManifestMade d s ≡ replies.ManifestMade f t
-same_manifest_made name d f s t c k x y p q e =
-    let whole = sym (made_place name d (behind_place d s c)) ∙ sym (manifest_made_bytes name d s c) ∙ e ∙ manifest_made_bytes name f t k ∙ made_place name f (behind_place f t k) in
-    let place = cut_front (manifest_front name) (digest_text d ++ (crlf ++ behind_place d s c)) (digest_text f ++ (crlf ++ behind_place f t k)) whole in
-    let behind = (same_digest d f (crlf ++ behind_place d s c) (crlf ++ behind_place f t k) x y place).1 in
-    let own = cut_front crlf (behind_place d s c) (behind_place f t k) behind in
-    let digest = same_digest_field d f (subject_field s ++ made_end c) (subject_field t ++ made_end k) x y own in
-    ap₂ replies.ManifestMade digest.0 (same_subject s t c k p q digest.1)
+same_subject : (s t : Option (List ℕ)) → IfSome s IsDigest → IfSome t IsDigest → option_map digest_text s ≡ option_map digest_text t → s ≡ t
+same_subject None None x y e = refl
+same_subject (Some d) (Some f) x y e = ap Some (same_told d f x y e)
+same_subject None (Some f) x y e = cc e
+same_subject (Some d) None x y e = cc e
 
 pub manifests_made_alike : (name : List ℕ) (a b : Reply) (c k : Bool) → IsManifestMade a → IsManifestMade b → IsReal a → IsReal b → AreSpelledAlike name false c k a b → AreAlike false a b
-manifests_made_alike name (replies.ManifestMade d s) (replies.ManifestMade f t) c k i j x y e = same_manifest_made name d f s t c k x.0 y.0 x.1 y.1 e
-manifests_made_alike name (replies.ManifestMade d s) b c k i j x y e = absurd j
+unfolding parts_of all_fields shown_body manifest_place
+manifests_made_alike name (replies.ManifestMade d v) (replies.ManifestMade f w) c k i j x y e =
+    let s = same_placed names.Location (codes "/v2/" ++ name ++ codes "/manifests/") (digest_text d) (digest_text f) (manifest_rest d v c) (manifest_rest f w k) [] [] (digest_free d) (digest_free f)
+    (manifest_rest_are d v c x.0 x.1) (manifest_rest_are f w k y.0 y.1) (lines_alike name (replies.ManifestMade d v) (replies.ManifestMade f w) false c k refl e) in
+    let subject = same_subject v w x.1 y.1 (sym (subject_of_rest d v c) ∙ ap (value_in (name_text names.Subject)) s.1 ∙ subject_of_rest f w k) in
+    ap₂ replies.ManifestMade (same_digest d f x.0 y.0 s.0) subject
+manifests_made_alike name (replies.ManifestMade d v) b c k i j x y e = absurd j
 manifests_made_alike name a b c k i j x y e = absurd i
 
 -- ---- referrers
 
--- the lines of an index, and its text
-abbrev index_rest : Bool → List ℕ → List ℕ
-index_rest close text = body_lines 200 (Some (media_text Index)) (length text) close ++ text
-
-same_filter : (u v c k : Bool) (text other : List ℕ) → filter_field u ++ index_rest c text ≡ filter_field v ++ index_rest k other → u ≡ v
-unfolding filter_field body_lines type_field
-same_filter true true c k text other e = refl
-same_filter false false c k text other e = refl
-same_filter true false c k text other e = let first : 79 ≡ 67 = ap (λ (l : List ℕ). slice_index l 0) e in absurd (omega (arith, first))
-same_filter false true c k text other e = let first : 67 ≡ 79 = ap (λ (l : List ℕ). slice_index l 0) e in absurd (omega (arith, first))
-
-same_index : (name text other : List ℕ) (u v c k : Bool) → AreSpelledAlike name false c k (replies.Referrers text u) (replies.Referrers other v) → replies.Referrers text u ≡ replies.Referrers other v
-same_index name text other u v c k e =
-    let whole = sym (index_bytes name text u c) ∙ e ∙ index_bytes name other v k in
-    let behind = sym (append_assoc (status_line 200) (filter_field u) (index_rest c text)) ∙ whole ∙ append_assoc (status_line 200) (filter_field v) (index_rest k other) in
-    let filtered = same_filter u v c k text other (cut_front (status_line 200) (filter_field u ++ index_rest c text) (filter_field v ++ index_rest k other) behind) in
-    let lines = cut_front (status_line 200 ++ filter_field v) (index_rest c text) (index_rest k other) (ap (λ (x : Bool). (status_line 200 ++ filter_field x) ++ index_rest c text) (sym filtered) ∙ whole) in
-    ap₂ replies.Referrers (same_body 200 (media_text Index) (length text) (length other) c k text other refl lines).1 filtered
-
 pub indexes_alike : (name : List ℕ) (a b : Reply) (c k : Bool) → IsReferrers a → IsReferrers b → AreSpelledAlike name false c k a b → AreAlike false a b
-indexes_alike name (replies.Referrers text u) (replies.Referrers other v) c k i j e = same_index name text other u v c k e
-indexes_alike name (replies.Referrers text u) b c k i j e = absurd j
+unfolding parts_of shown_body
+indexes_alike name (replies.Referrers v t) (replies.Referrers w u) c k i j e =
+    let s = fields_alike name (replies.Referrers v t) (replies.Referrers w u) false c k (all_are [] (replies.Referrers v t) c (free_nil 13) tt) (all_are [] (replies.Referrers w u) k (free_nil 13) tt) refl e in
+    ap₂ replies.Referrers s.1 (sym (filter_of_index name v t c) ∙ ap (λ (f : List Field). is_some (value_in (name_text names.FiltersApplied) f)) s.0 ∙ filter_of_index name w u k)
+indexes_alike name (replies.Referrers v t) b c k i j e = absurd j
 indexes_alike name a b c k i j e = absurd i
 
 -- ---- pages of tags
 
-same_tags : (later : Bool) (a b : List (List ℕ)) → AllByRecursion IsTag a → AllByRecursion IsTag b → tags_text later a ≡ tags_text later b → a ≡ b
-same_tags later [] [] x y e = refl
-same_tags true [] (t ∷ b) x y e = let first : 93 ≡ 44 = ap (λ (l : List ℕ). slice_index l 0) e in absurd (omega (arith, first))
-same_tags false [] (t ∷ b) x y e = let first : 93 ≡ 34 = ap (λ (l : List ℕ). slice_index l 0) e in absurd (omega (arith, first))
-same_tags true (t ∷ a) [] x y e = let first : 44 ≡ 93 = ap (λ (l : List ℕ). slice_index l 0) e in absurd (omega (arith, first))
-same_tags false (t ∷ a) [] x y e = let first : 34 ≡ 93 = ap (λ (l : List ℕ). slice_index l 0) e in absurd (omega (arith, first))
-same_tags later (t ∷ a) (u ∷ b) x y e =
-    let quote = cut_front (comma_if later) (34 ∷ (t ++ (34 ∷ tags_text true a))) (34 ∷ (u ++ (34 ∷ tags_text true b))) e in
-    let s = same_ended 34 t u (tags_text true a) (tags_text true b) (tag_free_of_quote t x.0) (tag_free_of_quote u y.0) (ap (drop 1) quote) in
-    ap₂ (λ (h : List ℕ) (r : List (List ℕ)). h ∷ r) s.0 (same_tags true a b x.1 y.1 s.1)
+-- the fields after the link of a page
+abbrev page_rest : ℕ → Bool → List Field
+page_rest size close = type_fields (Some json_media) ++ (length_fields 200 size ++ closing_fields close)
 
-same_page_rest : (name : List ℕ) (a b : List (List ℕ)) (c k : Bool) → AllByRecursion IsTag a → AllByRecursion IsTag b → page_rest name a c ≡ page_rest name b k → a ≡ b
-same_page_rest name a b c k x y e =
-    let body = (same_body 200 json_media (length (page_body name a)) (length (page_body name b)) c k (page_body name a) (page_body name b) refl e).1 in
-    same_tags false a b x y (cut_front (page_front name) (tags_text false a) (tags_text false b) (sym (page_is name a x) ∙ body ∙ page_is name b y))
+link_rest_free : (n : ℕ) (tag : List ℕ) → IsTag tag → IsFree 13 (link_rest n tag)
+link_rest_free n tag is =
+    let end = free_append 13 tag (62 ∷ codes "; rel=\"next\"") (tag_free_of_cr tag is) (free_by_test 13 (62 ∷ codes "; rel=\"next\"") refl) in
+    let last = free_append 13 (codes "last") (61 ∷ (tag ++ (62 ∷ codes "; rel=\"next\""))) (free_by_test 13 (codes "last") refl) (free_cons 13 61 (tag ++ (62 ∷ codes "; rel=\"next\"")) refl end) in
+    free_append 13 (decimal n) (38 ∷ (codes "last" ++ (61 ∷ (tag ++ (62 ∷ codes "; rel=\"next\""))))) (number_free n) (free_cons 13 38 (codes "last" ++ (61 ∷ (tag ++ (62 ∷ codes "; rel=\"next\"")))) refl last)
 
-same_last : (name : List ℕ) (a b : List (List ℕ)) (n m : ℕ) (c k : Bool) → AllByRecursion IsTag a → AllByRecursion IsTag b
-    → AreSpelledAlike name false c k (replies.Tags a None n) (replies.Tags b None m) → a ≡ b
-same_last name a b n m c k x y e =
-    let whole = sym (page_bytes name a None 0 c) ∙ last_alike name a 0 n c ∙ e ∙ last_alike name b m 0 k ∙ page_bytes name b None 0 k in
-    same_page_rest name a b c k x y (cut_front (status_line 200 ++ link_field name 0 None) (page_rest name a c) (page_rest name b k) whole)
+-- links to the same place
+same_link : (n m : ℕ) (t u : List ℕ) → n < 2 ^ 64 → m < 2 ^ 64 → IsTag t → IsTag u → link_rest n t ≡ link_rest m u → (t ≡ u) × (n ≡ m)
+same_link n m t u x y p q e =
+    let end : List ℕ = codes "; rel=\"next\"" in
+    let number = same_ended 38 (decimal n) (decimal m) (codes "last" ++ (61 ∷ (t ++ (62 ∷ end)))) (codes "last" ++ (61 ∷ (u ++ (62 ∷ end)))) (decimal_free 38 n (omega arith)) (decimal_free 38 m (omega arith)) e in
+    let last = cut_front (codes "last=") (t ++ (62 ∷ end)) (u ++ (62 ∷ end)) number.1 in
+    ((same_ended 62 t u end end (tag_free_of_end t p) (tag_free_of_end u q) last).0, decimal_injective n m x y number.0)
 
-same_linked : (name : List ℕ) (a b : List (List ℕ)) (t u : List ℕ) (n m : ℕ) (c k : Bool) → AllByRecursion IsTag a → AllByRecursion IsTag b → IsTag t → IsTag u → n < 2 ^ 64 → m < 2 ^ 64
-    → AreSpelledAlike name false c k (replies.Tags a (Some t) n) (replies.Tags b (Some u) m) → (a ≡ b) × (t ≡ u) × (n ≡ m)
-same_linked name a b t u n m c k x y p q small little e =
-    let whole = sym (number_bytes name a t n c) ∙ e ∙ number_bytes name b u m k in
-    let digits = cut_front (number_front name) (decimal n ++ (38 ∷ behind_number t (page_rest name a c))) (decimal m ++ (38 ∷ behind_number u (page_rest name b k))) whole in
-    let number = same_ended 38 (decimal n) (decimal m) (behind_number t (page_rest name a c)) (behind_number u (page_rest name b k)) (decimal_free 38 n (omega arith)) (decimal_free 38 m (omega arith)) digits in
-    let last = cut_front (codes "last=") (t ++ (62 ∷ behind_tag (page_rest name a c))) (u ++ (62 ∷ behind_tag (page_rest name b k))) number.1 in
-    let tag = same_ended 62 t u (behind_tag (page_rest name a c)) (behind_tag (page_rest name b k)) (tag_free_of_end t p) (tag_free_of_end u q) last in
-    let line = cut_front (codes "; rel=\"next\"") (crlf ++ page_rest name a c) (crlf ++ page_rest name b k) tag.1 in
-    (same_page_rest name a b c k x y (cut_front crlf (page_rest name a c) (page_rest name b k) line), tag.0, decimal_injective n m small little number.0)
+-- a page after which none follows has no field of its own
+last_are : (name : List ℕ) (tags : List (List ℕ)) (n : ℕ) (close : Bool) → AreFields (fields_of name (replies.Tags tags None n) close)
+unfolding parts_of all_fields link_fields
+last_are name tags n close = rest_are (Some json_media) 200 (length (page_body name tags)) close json_free
 
--- a page with a link doesn't have the bytes of one without
-not_linked : (name : List ℕ) (a b : List (List ℕ)) (u : List ℕ) (n m : ℕ) (c k : Bool) → AreSpelledAlike name false c k (replies.Tags a None n) (replies.Tags b (Some u) m) → ⊥
-unfolding link_field body_lines type_field
-not_linked name a b u n m c k e =
-    let whole = sym (append_assoc (status_line 200) (link_field name n None) (page_rest name a c)) ∙ sym (page_bytes name a None n c) ∙ e ∙ page_bytes name b (Some u) m k
-    ∙ append_assoc (status_line 200) (link_field name m (Some u)) (page_rest name b k) in
-    let behind = cut_front (status_line 200) (link_field name n None ++ page_rest name a c) (link_field name m (Some u) ++ page_rest name b k) whole in
-    let first : 67 ≡ 76 = ap (λ (l : List ℕ). slice_index l 0) behind in
-    omega (arith, first)
+linked_lines : (name : List ℕ) (tags : List (List ℕ)) (tag : List ℕ) (n : ℕ) (close : Bool) → after_status name (replies.Tags tags (Some tag) n) false close
+    ≡ fields_text (field_of names.Link (link_front name ++ link_rest n tag) ∷ page_rest (length (page_body name tags)) close) ++ page_body name tags
+unfolding parts_of all_fields link_fields shown_body
+linked_lines name tags tag n close = ap (λ (v : List ℕ). fields_text (field_of names.Link v ∷ page_rest (length (page_body name tags)) close) ++ page_body name tags) (link_is name n tag)
+
+-- a page with a link doesn't have the lines of one without
+not_linked : (name : List ℕ) (a b : List (List ℕ)) (u : List ℕ) (n m : ℕ) (c k : Bool) → after_status name (replies.Tags a None n) false c ≡ after_status name (replies.Tags b (Some u) m) false k → ⊥
+unfolding parts_of all_fields link_fields type_fields field_of name_text
+not_linked name a b u n m c k e = let first : 67 ≡ 76 = ap (λ (l : List ℕ). slice_index l 0) e in omega (arith, first)
 
 pub pages_alike : (name : List ℕ) (a b : Reply) (c k : Bool) → IsPage a → IsPage b → IsReal a → IsReal b → AreSpelledAlike name false c k a b → AreAlike false a b
-pages_alike name (replies.Tags a None n) (replies.Tags b None m) c k i j x y e = (same_last name a b n m c k x.0 y.0 e, tt)
+unfolding parts_of shown_body
+pages_alike name (replies.Tags a None n) (replies.Tags b None m) c k i j x y e =
+    let s = fields_alike name (replies.Tags a None n) (replies.Tags b None m) false c k (last_are name a n c) (last_are name b m k) refl e in
+    (same_pages name a b x.0 y.0 s.1, tt)
 pages_alike name (replies.Tags a (Some t) n) (replies.Tags b (Some u) m) c k i j x y e =
-    let s = same_linked name a b t u n m c k x.0 y.0 x.1 y.1 x.2 y.2 e in
-    (s.0, (s.1, s.2))
-pages_alike name (replies.Tags a None n) (replies.Tags b (Some u) m) c k i j x y e = absurd (not_linked name a b u n m c k e)
-pages_alike name (replies.Tags a (Some t) n) (replies.Tags b None m) c k i j x y e = absurd (not_linked name b a t m n k c (sym e))
+    let lines = sym (linked_lines name a t n c) ∙ lines_alike name (replies.Tags a (Some t) n) (replies.Tags b (Some u) m) false c k refl e ∙ linked_lines name b u m k in
+    let s = same_placed names.Link (link_front name) (link_rest n t) (link_rest m u) (page_rest (length (page_body name a)) c) (page_rest (length (page_body name b)) k) (page_body name a) (page_body name b)
+    (link_rest_free n t x.1) (link_rest_free m u y.1) (rest_are (Some json_media) 200 (length (page_body name a)) c json_free) (rest_are (Some json_media) 200 (length (page_body name b)) k json_free) lines in
+    let link = same_link n m t u x.2 y.2 x.1 y.1 s.0 in
+    (same_pages name a b x.0 y.0 s.2, (link.0, link.1))
+pages_alike name (replies.Tags a None n) (replies.Tags b (Some u) m) c k i j x y e = absurd (not_linked name a b u n m c k (lines_alike name (replies.Tags a None n) (replies.Tags b (Some u) m) false c k refl e))
+pages_alike name (replies.Tags a (Some t) n) (replies.Tags b None m) c k i j x y e = absurd (not_linked name b a t m n k c (sym (lines_alike name (replies.Tags a (Some t) n) (replies.Tags b None m) false c k refl e)))
 pages_alike name (replies.Tags a next n) b c k i j x y e = absurd j
 pages_alike name a b c k i j x y e = absurd i

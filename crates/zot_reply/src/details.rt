@@ -1,151 +1,132 @@
-//! What the bodies of refusals say beside their codes.
-ghost use Rattle.std.specs.Prelude.{◌≡◌, ◌++◌, [], ℕ, List, Some, false, codes, IfOk, IfSome, ◌≢◌};
+//! What refusals say beside their codes.
+ghost use Rattle.std.specs.Prelude.{◌≡◌, ◌++◌, ℕ, Bool, List, Some, MatchOption};
 ghost use Rattle.std.specs.Option.{option_copied};
-ghost use Rattle.zot_digest.specs.Digest.{IsDigest, digest_text};
+ghost use Rattle.zot_digest.specs.Digest.{IsDigest};
+ghost use Rattle.zot_model.specs.Codes.{HasDetail, SaysSession};
+ghost use Rattle.zot_model.specs.Refusals.{refusal_with};
+ghost use Rattle.zot_model.specs.Values.{IsRealDetail};
 ghost use Rattle.zot_model.specs.declared.code.Code.TheVariants.{BlobUploadInvalid, UpstreamMismatch};
 ghost use Rattle.zot_model.specs.declared.detail.Detail.{Detail};
 ghost use Rattle.zot_model.specs.declared.detail.Detail.TheVariants as details;
-ghost use Rattle.zot_model.specs.Fits.{HasDetail};
+ghost use Rattle.zot_spell.specs.Alike.{AreDetailsAlike};
 ghost use Rattle.zot_spell.specs.Bodies.{error_body};
-ghost use Rattle.zot_reply.specs.Reading.{IsRealDetail, TellsMissing, detail_front, refusal_with};
-ghost use Rattle.zot_spell.specs.Spelling.{parts_of, refusal_fields, spelled};
+ghost use Rattle.zot_spell.specs.Spelling.{shown_body};
+ghost use Rattle.zot_reply.specs.Details.{TellsMissing, detail_front};
+ghost use Rattle.zot_reply.specs.Reading.{IsSplit};
 
-use crate::codes::status_of_code;
-use crate::finding::find_body;
-use crate::reading::digest_behind;
-use std::alloc::{AllocError, Global};
+use crate::cutting::{first_digest, skip};
+use crate::told::told_upload;
 use zot_digest::Digest;
 use zot_model::{Code, Detail, Methods};
-use zot_spell::{json_media, push_status, text_of};
+use zot_spell::SplitReply;
 
-/// What the body of a refusal with this code says beside it, where the code doesn't tell an upload.
-pub fn find_detail(
-    alloc: Global,
-    bytes: &[u8],
-    close: bool,
-    code: Code,
-) -> Result<Option<Detail>, AllocError>
-    requires { code ≢ BlobUploadInvalid }
-    ensures kind { IfOk result (λ found. IfSome found (HasDetail code)) }
-    ensures whole { IfOk result (λ found. (name : List ℕ) (detail : Detail) → IsRealDetail detail → HasDetail code detail
-        → bytes.now ≡ spelled (parts_of name (refusal_with code detail)) false close → found ≡ Some detail) }
+/// How many bytes of a refusal's body stand before its code, and between that and its detail.
+const BEFORE_CODE: usize = 20;
+
+const BEFORE_DETAIL: usize = 12;
+
+/// How many bytes of a detail stand before the digest that was wanted, and between that and the one that was found.
+const BEFORE_WANTED: usize = 9;
+
+const BEFORE_FOUND: usize = 7;
+
+/// What a refusal with this code says beside it, to the method HEAD or another. To HEAD no body is shown, so there each detail of the code's kind has the same spelling.
+pub fn told_detail(head: bool, code: Code, split: &SplitReply) -> Option<Detail>
+    ensures { (name : List ℕ) (detail : Detail) → IsRealDetail detail → HasDetail code detail
+        → IsSplit name head (refusal_with code detail) split.now → MatchOption result ⊥ (AreDetailsAlike head detail) }
 {
     match code {
-        Code::ManifestBlobUnknown | Code::UpstreamIncomplete | Code::UpstreamInvalid => {
-            match find_missing(alloc, bytes, close, code)? {
-                Some(digest) => Ok(Some(Detail::Missing(digest))),
-                None => Ok(None),
-            }
-        }
-        Code::UpstreamMismatch => match find_differing(alloc, bytes, close)? {
-            Some((wanted, found)) => Ok(Some(Detail::Differ(wanted, found))),
-            None => Ok(None),
-        },
-        Code::Unsupported => Ok(Some(Detail::Allow(Methods::Read))),
-        _ => Ok(Some(Detail::None)),
+        Code::BlobUploadInvalid => told_session(split),
+        Code::ManifestBlobUnknown => told_missing(head, code, split.body),
+        Code::UpstreamIncomplete => told_missing(head, code, split.body),
+        Code::UpstreamInvalid => told_missing(head, code, split.body),
+        Code::UpstreamMismatch => told_differing(head, split.body),
+        Code::Unsupported => Some(Detail::Allow(Methods::Read)),
+        _ => Some(Detail::None),
     }
 }
 
-// The digest of what is missing or unreadable.
-fn find_missing(
-    alloc: Global,
-    bytes: &[u8],
-    close: bool,
-    code: Code,
-) -> Result<Option<Digest>, AllocError>
+// How far an upload has come.
+fn told_session(split: &SplitReply) -> Option<Detail>
+    ensures { (name : List ℕ) (head : Bool) (detail : Detail) → IsRealDetail detail → SaysSession detail
+        → IsSplit name head (refusal_with BlobUploadInvalid detail) split.now → MatchOption result ⊥ (AreDetailsAlike head detail) }
+{
+    let fields = split.fields.as_slice();
+    let Some(upload) = told_upload(fields) else {
+        return None;
+    };
+    Some(Detail::Session(upload.0, upload.1))
+}
+
+// The digest of what is missing or unreadable, or to HEAD any one.
+fn told_missing(head: bool, code: Code, body: &[u8]) -> Option<Detail>
     requires { TellsMissing code }
-    ensures { IfOk result (λ found. (name digest : List ℕ) → IsDigest digest
-        → bytes.now ≡ spelled (parts_of name (refusal_with code (details.Missing digest))) false close → found ≡ Some digest) }
+    ensures { (digest : List ℕ) → IsDigest digest → body.now ≡ shown_body head (error_body code (details.Missing digest))
+        → MatchOption result ⊥ (AreDetailsAlike head (details.Missing digest)) }
 {
-    let Some(body) = find_error(alloc, bytes, close, code)? else {
-        return Ok(None);
+    if head {
+        return Some(Detail::Missing(any_digest()));
+    }
+    let Some(text) = detail_in(code, body) else {
+        return None;
     };
-    let front = detail_front(alloc, code)?;
-    Ok(digest_behind(body, front.as_slice()))
-}
-
-// The digest that was wanted, and the one that was found.
-fn find_differing(
-    alloc: Global,
-    bytes: &[u8],
-    close: bool,
-) -> Result<Option<(Digest, Digest)>, AllocError>
-    ensures { IfOk result (λ found. (name wanted other : List ℕ) → IsDigest wanted → IsDigest other
-        → bytes.now ≡ spelled (parts_of name (refusal_with UpstreamMismatch (details.Differ wanted other))) false close → found ≡ Some (wanted, other)) }
-{
-    let Some(body) = find_error(alloc, bytes, close, Code::UpstreamMismatch)? else {
-        return Ok(None);
+    let Some(first) = first_digest(text) else {
+        return None;
     };
-    let Some(wanted) = find_wanted(alloc, body)? else {
-        return Ok(None);
+    Some(Detail::Missing(first.0))
+}
+
+// The digest that was wanted and the one that was found, or to HEAD any two.
+fn told_differing(head: bool, body: &[u8]) -> Option<Detail>
+    ensures { (wanted found : List ℕ) → IsDigest wanted → IsDigest found → body.now ≡ shown_body head (error_body UpstreamMismatch (details.Differ wanted found))
+        → MatchOption result ⊥ (AreDetailsAlike head (details.Differ wanted found)) }
+{
+    if head {
+        return Some(Detail::Differ(any_digest(), any_digest()));
+    }
+    let Some(digests) = differing_in(body) else {
+        return None;
     };
-    let Some(found) = find_found(alloc, body, &wanted)? else {
-        return Ok(None);
+    Some(Detail::Differ(digests.0, digests.1))
+}
+
+// The two digests of such a body.
+fn differing_in(body: &[u8]) -> Option<(Digest, Digest)>
+    ensures { (wanted found : List ℕ) → IsDigest wanted → IsDigest found → body.now ≡ error_body UpstreamMismatch (details.Differ wanted found)
+        → result ≡ Some (wanted, found) }
+{
+    let Some(text) = detail_in(Code::UpstreamMismatch, body) else {
+        return None;
     };
-    Ok(Some((wanted, found)))
+    let Some(from_wanted) = skip(text, BEFORE_WANTED) else {
+        return None;
+    };
+    let Some(wanted) = first_digest(from_wanted) else {
+        return None;
+    };
+    let Some(from_found) = skip(wanted.1, BEFORE_FOUND) else {
+        return None;
+    };
+    let Some(found) = first_digest(from_found) else {
+        return None;
+    };
+    Some((wanted.0, found.0))
 }
 
-// The digest that was wanted, in such a body.
-fn find_wanted(alloc: Global, body: &[u8]) -> Result<Option<Digest>, AllocError>
-    ensures { IfOk result (λ found. (wanted other : List ℕ) → IsDigest wanted → IsDigest other
-        → body.now ≡ error_body UpstreamMismatch (details.Differ wanted other) → found ≡ Some wanted) }
+// The body of a refusal with this code, from its detail's text on.
+fn detail_in(code: Code, body: &[u8]) -> Option<&[u8]>
+    ensures { (rest : List ℕ) → body.now ≡ detail_front code ++ rest → option_copied result ≡ Some rest }
 {
-    let front = wanted_front(alloc)?;
-    Ok(digest_behind(body, front.as_slice()))
+    let Some(from_code) = skip(body, BEFORE_CODE) else {
+        return None;
+    };
+    let Some(after_code) = skip(from_code, code.text().len()) else {
+        return None;
+    };
+    skip(after_code, BEFORE_DETAIL)
 }
 
-// The digest that was found where this one was wanted, in such a body.
-fn find_found(alloc: Global, body: &[u8], wanted: &Digest) -> Result<Option<Digest>, AllocError>
-    ensures { IfOk result (λ found. (other : List ℕ) → IsDigest wanted.now → IsDigest other
-        → body.now ≡ error_body UpstreamMismatch (details.Differ wanted.now other) → found ≡ Some other) }
-{
-    let front = found_front(alloc, wanted)?;
-    Ok(digest_behind(body, front.as_slice()))
-}
-
-// The body of a refusal with this code, which has no fields of its own.
-fn find_error<'a>(
-    alloc: Global,
-    bytes: &'a [u8],
-    close: bool,
-    code: Code,
-) -> Result<Option<&'a [u8]>, AllocError>
-    ensures { IfOk result (λ found. (name : List ℕ) (detail : Detail) → refusal_fields name detail ≡ []
-        → bytes.now ≡ spelled (parts_of name (refusal_with code detail)) false close → option_copied found ≡ Some (error_body code detail)) }
-{
-    let status = status_of_code(code);
-    let mut start = Vec::new(alloc);
-    push_status(&mut start, status)?;
-    find_body(alloc, bytes, start.as_slice(), status, json_media(), close)
-}
-
-// The body up to the detail's text.
-#[tactic(auto, unfolding(crate::specs::Reading::detail_front))]
-fn detail_front(alloc: Global, code: Code) -> Result<Vec<u8>, AllocError>
-    ensures { IfOk result (λ front. front.items ≡ detail_front code) }
-{
-    let mut front = Vec::from_slice(alloc, b"{\"errors\":[{\"code\":\"".as_slice())?;
-    front.extend_from_slice(text_of(code).as_bytes())?;
-    front.extend_from_slice(b"\",\"detail\":\"".as_slice())?;
-    Ok(front)
-}
-
-// The body up to the digest that was wanted.
-fn wanted_front(alloc: Global) -> Result<Vec<u8>, AllocError>
-    ensures { IfOk result (λ front. front.items ≡ detail_front UpstreamMismatch ++ codes "expected ") }
-{
-    let mut front = detail_front(alloc, Code::UpstreamMismatch)?;
-    front.extend_from_slice(b"expected ".as_slice())?;
-    Ok(front)
-}
-
-// The body up to the digest that was found.
-fn found_front(alloc: Global, wanted: &Digest) -> Result<Vec<u8>, AllocError>
-    ensures { IfOk result (λ front. front.items
-        ≡ detail_front UpstreamMismatch ++ (codes "expected " ++ (digest_text wanted.now ++ codes " found "))) }
-{
-    let mut front = wanted_front(alloc)?;
-    front.extend_from_slice(wanted.text(alloc)?.as_bytes())?;
-    front.extend_from_slice(b" found ".as_slice())?;
-    Ok(front)
+// A digest.
+fn any_digest() -> Digest {
+    Digest::from_bytes([0; 32])
 }

@@ -1,103 +1,84 @@
 //! Refusals that bytes may be.
-ghost use Rattle.std.specs.Prelude.{◌≢◌, IfOk};
-ghost use Rattle.zot_reply.specs.Reading.{Finds, IsRefusedAs, IsRefusedAmong, TellsDetail};
-ghost use Rattle.zot_digest.specs.Digest.{IsDigest};
-ghost use Rattle.zot_model.specs.declared.code.Code.TheVariants.{BlobUploadInvalid};
-ghost use Rattle.zot_model.specs.Fits.{HasDetail};
-ghost use Rattle.zot_spell.specs.Alike.{IsDetail};
+ghost use Rattle.std.specs.Prelude.{IfOk, IfSome, IsSome};
+ghost use Rattle.zot_model.specs.declared.reply.Reply.{Reply};
+ghost use Rattle.zot_reply.specs.Reading.{IsRefusedAmong, IsRefusedAs, IsWanted, Spells};
 
-use crate::codes::status_of_code;
-use crate::details::find_detail;
-use crate::finding::confirm;
-use crate::sessions::read_range_refusal;
+use crate::confirming::confirm;
+use crate::details::told_detail;
 use std::alloc::{AllocError, Global};
-use zot_digest::Digest;
-use zot_model::{Code, Detail, Methods, Reply};
+use zot_model::{Code, Reply, Request, real_values};
+use zot_spell::SplitReply;
 
-/// The refusal with one of these codes that bytes are, if they are one.
+/// All codes.
+pub const CODES: [Code; 24] = [
+    Code::BlobUnknown,
+    Code::BlobUploadInvalid,
+    Code::BlobUploadUnknown,
+    Code::DigestInvalid,
+    Code::ManifestBlobUnknown,
+    Code::ManifestInvalid,
+    Code::ManifestUnknown,
+    Code::NameInvalid,
+    Code::NameUnknown,
+    Code::SizeInvalid,
+    Code::Unsupported,
+    Code::TooManyRequests,
+    Code::HeadInvalid,
+    Code::HeadTooLong,
+    Code::StorageFault,
+    Code::UpstreamFault,
+    Code::UpstreamMismatch,
+    Code::UpstreamIncomplete,
+    Code::UpstreamInvalid,
+    Code::UpstreamTooLarge,
+    Code::PeerFault,
+    Code::NoMemory,
+    Code::HopRefused,
+    Code::NotBuilt,
+];
+
+/// The refusal of a request with one of these codes that bytes are, if they are one.
 pub fn read_refusals(
     alloc: Global,
-    name: &str,
-    bytes: &[u8],
-    head: bool,
-    close: bool,
+    request: &Request,
     codes: &[Code],
+    bytes: &[u8],
+    split: &SplitReply,
 ) -> Result<Option<Reply>, AllocError>
-    ensures { IfOk result (Finds (IsRefusedAmong codes.now) name.now head close bytes.now) }
+    ensures sound { IfOk result (λ found. IfSome found (λ reply. Spells request.now reply bytes.now)) }
+    ensures whole { IfOk result (λ found. (reply : Reply) → IsRefusedAmong codes.now reply → IsWanted request.now reply bytes.now split.now → IsSome found) }
 {
     for code in codes {
-        if let Some(reply) = read_refusal(alloc, name, bytes, head, close, *code)? {
+        if let Some(reply) = read_refusal(alloc, request, *code, bytes, split)? {
             return Ok(Some(reply));
         }
     }
     Ok(None)
 }
 
-/// The refusal with this code that bytes are, if they are one.
-pub fn read_refusal(
+// The same with this code.
+fn read_refusal(
     alloc: Global,
-    name: &str,
-    bytes: &[u8],
-    head: bool,
-    close: bool,
+    request: &Request,
     code: Code,
+    bytes: &[u8],
+    split: &SplitReply,
 ) -> Result<Option<Reply>, AllocError>
-    ensures { IfOk result (Finds (IsRefusedAs code) name.now head close bytes.now) }
+    ensures sound { IfOk result (λ found. IfSome found (λ reply. Spells request.now reply bytes.now)) }
+    ensures whole { IfOk result (λ found. (reply : Reply) → IsRefusedAs code reply → IsWanted request.now reply bytes.now split.now → IsSome found) }
 {
-    match code {
-        Code::BlobUploadInvalid => read_range_refusal(alloc, name, bytes, head, close),
-        _ => {
-            let Some(detail) = told_detail(alloc, bytes, head, close, code)? else {
-                return Ok(None);
-            };
-            let status = status_of_code(code);
-            let reply = Reply::Refused {
-                status,
-                code,
-                detail,
-            };
-            confirm(alloc, name, reply, head, close, bytes)
-        }
+    let status = code.status();
+    if status != split.status {
+        return Ok(None);
     }
-}
-
-// A detail with which bytes are the refusal with this code, where they are one. To HEAD no body is shown, so there each detail of the code's kind has the same spelling.
-fn told_detail(
-    alloc: Global,
-    bytes: &[u8],
-    head: bool,
-    close: bool,
-    code: Code,
-) -> Result<Option<Detail>, AllocError>
-    requires { code ≢ BlobUploadInvalid }
-    ensures { IfOk result (TellsDetail code head close bytes.now) }
-{
-    if head {
-        Ok(Some(some_detail(code)))
-    } else {
-        find_detail(alloc, bytes, close, code)
-    }
-}
-
-// A detail of the kind that this code has.
-fn some_detail(code: Code) -> Detail
-    requires { code ≢ BlobUploadInvalid }
-    ensures kind { HasDetail code result }
-    ensures digests { IsDetail result }
-{
-    match code {
-        Code::ManifestBlobUnknown | Code::UpstreamIncomplete | Code::UpstreamInvalid => {
-            Detail::Missing(some_digest())
-        }
-        Code::UpstreamMismatch => Detail::Differ(some_digest(), some_digest()),
-        Code::Unsupported => Detail::Allow(Methods::Read),
-        _ => Detail::None,
-    }
-}
-
-// A digest.
-fn some_digest() -> Digest
-    ensures { IsDigest result }
-{
-    Digest::from_bytes([0; 32])
+    let Some(detail) = told_detail(request.call.is_head(), code, split) else {
+        return Ok(None);
+    };
+    let reply = Reply::Refused {
+        status,
+        code,
+        detail,
+    };
+    real_values(&reply);
+    confirm(alloc, request, reply, bytes)
 }

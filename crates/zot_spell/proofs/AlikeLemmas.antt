@@ -15,13 +15,14 @@ use Rattle.zot_model.specs.declared.reply.Reply.TheVariants as replies
 use Rattle.zot_model.specs.declared.request.Request.{Request}
 use Rattle.zot_spell.specs.Alike.{AreAlike, AreDetailsAlike, ArePagesAlike, AreSeenAlike, AreSizesAlike, AreUnseenAlike, IsDetail}
 use Rattle.zot_spell.specs.Bodies.{detail_text, error_body, errors_value}
-use Rattle.zot_spell.specs.Codes.{code_text, message_text}
-use Rattle.zot_spell.specs.Fields.{link_field, range_field, range_text, upload_fields}
-use Rattle.zot_spell.specs.Spelling.{name_in, parts_of, refusal_fields, reply_bytes, rest_of, shown_body, spelled}
+use Rattle.zot_model.specs.Codes.{code_text, message_text}
+use Rattle.zot_spell.specs.declared.field.Field.{Field}
+use Rattle.zot_spell.specs.Fields.{link_fields, range_text, upload_fields}
+use Rattle.zot_spell.specs.Spelling.{name_in, all_fields, head_of, parts_of, refusal_fields, reply_body, reply_bytes, reply_head, shown_body, spelled}
 use Rattle.zot_spell.proofs.PlainLemmas.{IsPlain, plain_append, plain_digest, plain_text}
 
 upload_alike : (name : List ℕ) (id size other : ℕ) → AreSizesAlike size other → upload_fields name id size ≡ upload_fields name id other
-unfolding upload_fields range_field range_text
+unfolding upload_fields range_text
 upload_alike name id size other h = rw h refl
 
 -- ---- the length of a body with a detail
@@ -89,10 +90,10 @@ unfolding refusal_fields
 seen_fields name (details.Session id size) (details.Session other count) h = rw h.0 (upload_alike name other size count h.1)
 seen_fields name detail said h = ap (refusal_fields name) h
 
-head_alike : (status : ℕ) (own fields media body text : List ℕ) (close : Bool) → own ≡ fields → length body ≡ length text
+head_alike : (status : ℕ) (own fields : List Field) (media body text : List ℕ) (close : Bool) → own ≡ fields → length body ≡ length text
     → spelled (record { status = status; own = own; media = Some media; size = length body; body = body }) true close
     ≡ spelled (record { status = status; own = fields; media = Some media; size = length text; body = text }) true close
-unfolding spelled rest_of shown_body
+unfolding spelled head_of all_fields shown_body
 head_alike status own fields media body text close e l = rw (e, l) refl
 
 pub refused_alike : (name : List ℕ) (status : ℕ) (code : Code) (detail said : Detail) (head close : Bool) → IsDetail detail → IsDetail said → AreDetailsAlike head detail said
@@ -101,8 +102,8 @@ unfolding parts_of
 refused_alike name status code detail said true close x y h = head_alike status _ _ _ _ _ close (unseen_fields name detail said h) (unseen_size code detail said x y h)
 refused_alike name status code detail said false close x y h = rw (seen_fields name detail said h, seen_body code detail said h) refl
 
-page_alike : (name : List ℕ) (next follows : Option (List ℕ)) (n m : ℕ) → ArePagesAlike next n follows m → link_field name n next ≡ link_field name m follows
-unfolding link_field
+page_alike : (name : List ℕ) (next follows : Option (List ℕ)) (n m : ℕ) → ArePagesAlike next n follows m → link_fields name n next ≡ link_fields name m follows
+unfolding link_fields
 page_alike name None None n m h = refl
 page_alike name (Some tag) (Some other) n m h = rw (h.0, h.1) refl
 page_alike name None (Some other) n m h = absurd h
@@ -118,3 +119,7 @@ alike name a b head close h = ap (λ r. spelled (parts_of name r) head close) h
 pub alike_bytes : (request : Option Request) (a b : Reply) (head close : Bool) → AreAlike head a b → reply_bytes request a head close ≡ reply_bytes request b head close
 unfolding reply_bytes
 alike_bytes request a b head close h = alike (name_in request) a b head close h
+
+pub head_and_body : (request : Option Request) (reply : Reply) (head close : Bool) → reply_bytes request reply head close ≡ reply_head request reply close ++ shown_body head (reply_body request reply)
+unfolding reply_bytes spelled reply_head reply_body
+head_and_body request reply head close = refl

@@ -7,7 +7,7 @@ use Rattle.zot_digest.specs.Digest.{digest_text}
 use Rattle.zot_model.specs.declared.code.Code.{Code}
 use Rattle.zot_model.specs.declared.detail.Detail.{Detail}
 use Rattle.zot_model.specs.declared.detail.Detail.TheVariants as details
-use Rattle.zot_spell.specs.Codes.{code_text, message_text}
+use Rattle.zot_model.specs.Codes.{code_text, message_text}
 
 -- what a refusal's body says beside its code: the digest of what is missing or unreadable, or the digest that was wanted and the one that was found
 unfoldable pub detail_text : Detail → Option (List ℕ)

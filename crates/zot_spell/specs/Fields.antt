@@ -1,4 +1,4 @@
--- Status lines and field lines (RFC 9112, sections 4 and 5), on lists of bytes.
+-- The status lines of replies and their fields (RFC 9112, sections 4 and 5), on lists of bytes.
 use Rattle.std.specs.Prelude.{ℕ, ◌==◌, ◌-◌, Bool, if◌then◌else◌, List, [], ◌∷◌, ◌++◌, Option, Some, None, unwrap_or, codes}
 use Rattle.std.specs.Fmt.{decimal}
 use Rattle.http.specs.StatusCode.{code_digits, reason_phrase}
@@ -6,6 +6,9 @@ use Rattle.zot_digest.specs.Digest.{digest_text}
 use Rattle.zot_model.specs.declared.methods.Methods.{Methods}
 use Rattle.zot_model.specs.declared.methods.Methods.TheVariants as methods
 use Rattle.zot_names.specs.Upload.{upload_text}
+use Rattle.zot_spell.specs.declared.field.Field.{Field}
+use Rattle.zot_spell.specs.declared.field_name.FieldName.TheVariants as names
+use Rattle.zot_spell.specs.Heads.{field_of, length_field_of}
 
 -- CR LF
 abbrev pub crlf : List ℕ
@@ -23,10 +26,6 @@ status_digits status = code_digits status
 unfoldable pub status_line : ℕ → List ℕ
 status_line status = codes "HTTP/1.1 " ++ status_digits status ++ codes " " ++ reason status ++ crlf
 
--- a field line
-abbrev pub field : List ℕ → List ℕ → List ℕ
-field name value = name ++ codes ": " ++ value ++ crlf
-
 -- ---- places (OCI Distribution Specification 1.1, "Endpoints")
 
 -- the place of a blob
@@ -41,57 +40,49 @@ manifest_place name digest = codes "/v2/" ++ name ++ codes "/manifests/" ++ dige
 unfoldable pub upload_place : List ℕ → ℕ → List ℕ
 upload_place name id = codes "/v2/" ++ name ++ codes "/blobs/uploads/" ++ upload_text id
 
--- the place of the page behind a tag
+-- the place of the page after a tag
 unfoldable pub page_place : List ℕ → ℕ → List ℕ → List ℕ
 page_place name n tag = codes "/v2/" ++ name ++ codes "/tags/list?n=" ++ decimal n ++ codes "&last=" ++ tag
 
 -- ---- fields
 
 -- the field of the base route (OCI Distribution Specification 1.1, "Legacy Docker support HTTP headers")
-unfoldable pub version_field : List ℕ
-version_field = field (codes "Docker-Distribution-Api-Version") (codes "registry/2.0")
+unfoldable pub version_field : Field
+version_field = field_of names.ApiVersion (codes "registry/2.0")
 
 -- the field that names a place (RFC 9110, section 10.2.2)
-unfoldable pub location_field : List ℕ → List ℕ
-location_field place = field (codes "Location") place
+abbrev pub location_field : List ℕ → Field
+location_field place = field_of names.Location place
 
 -- the field that names a digest
-unfoldable pub digest_field : List ℕ → List ℕ
-digest_field digest = field (codes "Docker-Content-Digest") (digest_text digest)
+abbrev pub digest_field : List ℕ → Field
+digest_field digest = field_of names.ContentDigest (digest_text digest)
 
 -- the field that names a manifest's subject, where it has one (OCI Distribution Specification 1.1, "Pushing Manifests with Subject")
-unfoldable pub subject_field : Option (List ℕ) → List ℕ
-subject_field None = []
-subject_field (Some digest) = field (codes "OCI-Subject") (digest_text digest)
+unfoldable pub subject_fields : Option (List ℕ) → List Field
+subject_fields None = []
+subject_fields (Some digest) = field_of names.Subject (digest_text digest) ∷ []
 
 -- the place of an upload's last byte, counted from 0, and 0 for an upload without bytes
 unfoldable pub range_text : ℕ → List ℕ
 range_text size = codes "0-" ++ decimal (size - 1)
 
--- the field that says how far an upload has come (OCI Distribution Specification 1.1, "Pushing a blob in chunks")
-unfoldable pub range_field : ℕ → List ℕ
-range_field size = field (codes "Range") (range_text size)
+-- the fields of an upload: its place, how far it has come, its id (OCI Distribution Specification 1.1, "Pushing a blob in chunks")
+unfoldable pub upload_fields : List ℕ → ℕ → ℕ → List Field
+upload_fields name id size = location_field (upload_place name id) ∷ (field_of names.Range (range_text size) ∷ (field_of names.UploadId (upload_text id) ∷ []))
 
--- the field that names an upload
-unfoldable pub upload_field : ℕ → List ℕ
-upload_field id = field (codes "Docker-Upload-UUID") (upload_text id)
-
--- the fields of an upload: its place, how far it has come, its id
-unfoldable pub upload_fields : List ℕ → ℕ → ℕ → List ℕ
-upload_fields name id size = location_field (upload_place name id) ++ range_field size ++ upload_field id
-
--- the link to the page behind a tag (RFC 8288, section 3)
+-- the link to the page after a tag (RFC 8288, section 3)
 unfoldable pub link_text : List ℕ → ℕ → List ℕ → List ℕ
 link_text name n tag = codes "<" ++ page_place name n tag ++ codes ">; rel=\"next\""
 
 -- the field that names the next page, where there is one (OCI Distribution Specification 1.1, "Listing Tags")
-unfoldable pub link_field : List ℕ → ℕ → Option (List ℕ) → List ℕ
-link_field name n None = []
-link_field name n (Some tag) = field (codes "Link") (link_text name n tag)
+unfoldable pub link_fields : List ℕ → ℕ → Option (List ℕ) → List Field
+link_fields name n None = []
+link_fields name n (Some tag) = field_of names.Link (link_text name n tag) ∷ []
 
 -- the field that says which filter was applied (OCI Distribution Specification 1.1, "Listing Referrers")
-unfoldable pub filter_field : Bool → List ℕ
-filter_field filtered = if filtered then field (codes "OCI-Filters-Applied") (codes "artifactType") else []
+unfoldable pub filter_fields : Bool → List Field
+filter_fields filtered = if filtered then (field_of names.FiltersApplied (codes "artifactType") ∷ []) else []
 
 -- the methods of a path
 unfoldable pub methods_text : Methods → List ℕ
@@ -103,22 +94,13 @@ methods_text methods.Upload = codes "GET, PATCH, PUT"
 methods_text methods.Blob = codes "GET, HEAD, DELETE"
 
 -- the field that names the methods of a path (RFC 9110, section 10.2.1)
-unfoldable pub allow_field : Methods → List ℕ
-allow_field which = field (codes "Allow") (methods_text which)
-
--- the field that names the media of a body, where there is one (RFC 9110, section 8.3)
-unfoldable pub type_field : Option (List ℕ) → List ℕ
-type_field None = []
-type_field (Some media) = field (codes "Content-Type") media
-
--- the field that names a size in bytes (RFC 9110, section 8.6)
-unfoldable pub size_field : ℕ → List ℕ
-size_field size = field (codes "Content-Length") (decimal size)
+unfoldable pub allow_field : Methods → Field
+allow_field which = field_of names.Allow (methods_text which)
 
 -- the size of a reply's body; a reply without content, 204, has no such field (RFC 9110, section 8.6)
-unfoldable pub length_field : ℕ → ℕ → List ℕ
-length_field status size = if status == 204 then [] else size_field size
+unfoldable pub length_fields : ℕ → ℕ → List Field
+length_fields status size = if status == 204 then [] else (length_field_of size ∷ [])
 
--- the field of a reply behind which the connection closes (RFC 9112, section 9.6)
-unfoldable pub closing_field : Bool → List ℕ
-closing_field close = if close then field (codes "Connection") (codes "close") else []
+-- the field of a reply after which the connection closes (RFC 9112, section 9.6)
+unfoldable pub closing_fields : Bool → List Field
+closing_fields close = if close then (field_of names.Connection (codes "close") ∷ []) else []

@@ -4,7 +4,6 @@ ghost use Rattle.serde_json.specs.Data.{array, string};
 ghost use Rattle.serde_json.specs.View.{items_of, view};
 ghost use Rattle.zot_spell.specs.Bodies.{detail_text, error_body, errors_value, page_body, page_value};
 
-use crate::codes::{message_of, text_of};
 use serde_json::{Value, json};
 use std::alloc::{AllocError, Global};
 use zot_model::{Code, Detail};
@@ -17,8 +16,8 @@ pub fn error_body(alloc: Global, code: Code, detail: &Detail) -> Result<String, 
 {
     let detail = detail_text(alloc, detail)?;
     let value = match &detail {
-        Some(detail) => detailed(alloc, text_of(code), detail.as_str(), message_of(code))?,
-        None => undetailed(alloc, text_of(code), message_of(code))?,
+        Some(detail) => detailed(alloc, code.text(), detail.as_str(), code.message())?,
+        None => undetailed(alloc, code.text(), code.message())?,
     };
     value.to_string(alloc)
 }

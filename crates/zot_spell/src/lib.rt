@@ -2,7 +2,7 @@
 #![tactic(auto)]
 
 mod bodies;
-mod codes;
+mod cutting;
 mod field;
 mod field_name;
 mod fields;
@@ -11,18 +11,16 @@ mod places;
 mod query;
 mod reply;
 mod request;
+mod split;
 mod status;
-#[cfg(test)]
-mod tests;
 
-pub use crate::codes::text_of;
-pub use crate::field::{Field, add_field, add_length, add_type, push_fields, value_in};
+pub use crate::bodies::page_body;
+pub use crate::cutting::{after, cut};
+pub use crate::field::{Field, value_in};
 pub use crate::field_name::FieldName;
-pub use crate::fields::{push_digest, push_filter, push_link, push_location, push_type};
-pub use crate::laws::alike_replies;
-pub use crate::places::{manifest_place, upload_place};
-pub use crate::reply::{byte_media, json_media, name_of, push_lines, spell, spell_reply};
+pub use crate::laws::{alike_replies, reply_head_then_body};
+pub use crate::reply::{is_reply, join_head, name_of, spell_head, spell_reply};
 pub use crate::request::{
     body_of, head_and_body, head_then_body, spell_request, spell_request_head,
 };
-pub use crate::status::push_status;
+pub use crate::split::{SplitReply, split_reply};

@@ -1,13 +1,18 @@
 //! Replies as they stand on the wire.
-ghost use Rattle.std.specs.Prelude.{◌≡◌, ◌++◌, length, Some, None, OnOk, IfOk};
+ghost use Rattle.std.specs.Prelude.{◌≡◌, ◌++◌, ◌∷◌, ◌↔◌, length, IfOk, OnOk, IsTrue, string_bytes};
+ghost use Rattle.std.specs.List.{AllPass};
 ghost use Rattle.std.specs.Option.{option_copied};
-ghost use Rattle.zot_spell.specs.Fields.{blob_place, digest_field, location_field, manifest_place, subject_field};
-ghost use Rattle.zot_spell.specs.Spelling.{HasStatus, MayHave, base_body, body_lines, byte_media, json_media, name_in, parts_of, refusal_fields, reply_bytes, rest_of, shown_body, spelled};
+ghost use Rattle.http.specs.StatusCode.{IsStatusCode};
+ghost use Rattle.zot_names.specs.Name.{is_name_byte};
+ghost use Rattle.zot_spell.specs.Fields.{digest_field, location_field, manifest_place, subject_fields};
+ghost use Rattle.zot_spell.specs.Spelling.{HasStatus, IsReply, MayHave, byte_media, head_of, head_text, json_media, made_body, name_in, parts_of, refusal_fields, reply_bytes, reply_head, shown_body};
 
 use crate::bodies::{error_body, page_body};
+use crate::cutting::after;
+use crate::field::{Field, add_type, push_fields};
 use crate::fields::{
-    push_allow, push_closing, push_digest, push_filter, push_length, push_link, push_location,
-    push_subject, push_type, push_upload, push_version,
+    add_allow, add_closing, add_digest, add_filter, add_link, add_made, add_size, add_subject,
+    add_upload, add_version,
 };
 use crate::places::{blob_place, manifest_place};
 use crate::status::push_status;
@@ -16,8 +21,8 @@ use zot_digest::Digest;
 use zot_media::Media;
 use zot_model::{Detail, Reply, Request};
 
-/// The bytes of a reply to a request, or to a message that asks for nothing (RFC 9112, sections 4 to 6). `head` says that the method is HEAD, whose reply has the fields of a GET's and no body, and `close` that the connection closes behind the reply. It fails only where memory does.
-#[tactic(auto, unfolding(crate::specs::Spelling::reply_bytes))]
+/// The bytes of a reply to a request, or to a message that asks for nothing (RFC 9112, sections 4 to 6). `head` says that the method is HEAD, whose reply has the fields of a GET's and no body, and `close` that the connection closes after the reply. It fails only where memory does.
+#[tactic(auto, unfolding(crate::specs::Spelling::reply_bytes, crate::specs::Spelling::spelled))]
 pub fn spell_reply(
     alloc: Global,
     request: Option<&Request>,
@@ -30,12 +35,66 @@ pub fn spell_reply(
         ≡ reply_bytes (option_copied request.entry) reply.now head close) }
 {
     let name = name_of(request);
-    spell(alloc, name, reply, head, close)
+    let made = made_body(alloc, name, reply)?;
+    let body = body_in(name, reply, made.as_str());
+    let mut out = head_of(alloc, name, reply, body.len() as u64, close)?;
+    out.extend_from_slice(shown_in(head, body))?;
+    Ok(out)
+}
+
+/// The head of a reply: its status line, its fields and the empty line after them. The bytes of a reply are its head and then its body, which a reply to HEAD leaves out, so a blob's bytes needn't be copied. It fails only where memory does.
+#[tactic(auto, unfolding(crate::specs::Spelling::reply_head))]
+pub fn spell_head(
+    alloc: Global,
+    request: Option<&Request>,
+    reply: &Reply,
+    close: bool,
+) -> Result<Vec<u8>, AllocError>
+    requires { MayHave (option_copied request) reply.now }
+    ensures { IfOk result (λ bytes. bytes.items ≡ reply_head (option_copied request.entry) reply.now close) }
+{
+    let name = name_of(request);
+    let made = made_body(alloc, name, reply)?;
+    let body = body_in(name, reply, made.as_str());
+    head_of(alloc, name, reply, body.len() as u64, close)
+}
+
+/// Whether bytes are a reply, after which the connection closes or goes on. A blob, a manifest or an index is neither copied nor spelled. It fails only where memory does.
+#[tactic(auto, unfolding(crate::specs::Spelling::reply_bytes, crate::specs::Spelling::spelled))]
+pub fn is_reply(
+    alloc: Global,
+    request: Option<&Request>,
+    reply: &Reply,
+    head: bool,
+    bytes: &[u8],
+) -> Result<bool, AllocError>
+    requires { MayHave (option_copied request) reply.now }
+    ensures yes { IfOk result (λ is. IsTrue is → IsReply (option_copied request.entry) reply.now head bytes.now) }
+    ensures no { IfOk result (λ is. IsReply (option_copied request.entry) reply.now head bytes.now → IsTrue is) }
+{
+    let name = name_of(request);
+    let made = made_body(alloc, name, reply)?;
+    let body = body_in(name, reply, made.as_str());
+    let shown = shown_in(head, body);
+    let open = head_of(alloc, name, reply, body.len() as u64, false)?;
+    let closing = head_of(alloc, name, reply, body.len() as u64, true)?;
+    Ok(is_joined(bytes, open.as_slice(), shown) || is_joined(bytes, closing.as_slice(), shown))
+}
+
+// Whether bytes are these two, one after the other.
+fn is_joined(bytes: &[u8], front: &[u8], rest: &[u8]) -> bool
+    ensures { IsTrue result ↔ (bytes.now ≡ front.now ++ rest.now) }
+{
+    match after(bytes, front) {
+        Some(last) => last == rest,
+        None => false,
+    }
 }
 
 /// The name of a request's repository, or no text.
 pub fn name_of<'a>(request: Option<&'a Request>) -> &'a str
-    ensures { result.now ≡ name_in (option_copied request.entry) }
+    ensures value { result.now ≡ name_in (option_copied request.entry) }
+    ensures bytes { AllPass is_name_byte result.now }
 {
     match request {
         Some(request) => match &request.name {
@@ -46,22 +105,36 @@ pub fn name_of<'a>(request: Option<&'a Request>) -> &'a str
     }
 }
 
-/// The bytes of a reply to a request on the repository of this name.
-#[tactic(auto, unfolding(crate::specs::Spelling::spelled))]
-pub fn spell(
+// The head of a reply to a request on the repository of this name, with a body of this length.
+#[tactic(auto, unfolding(crate::specs::Spelling::head_of, crate::specs::Spelling::all_fields))]
+fn head_of(
     alloc: Global,
     name: &str,
     reply: &Reply,
-    head: bool,
+    count: u64,
     close: bool,
 ) -> Result<Vec<u8>, AllocError>
-    requires { HasStatus name.now reply.now }
-    ensures { IfOk result (λ bytes. bytes.items ≡ spelled (parts_of name.now reply.now) head close) }
+    requires status { HasStatus name.now reply.now }
+    requires size { count ≡ length (parts_of name.now reply.now).body }
+    ensures { IfOk result (λ bytes. bytes.items ≡ head_of (parts_of name.now reply.now) close) }
+{
+    let status = status_of(name, reply);
+    let mut fields = own_fields(alloc, name, reply)?;
+    add_type(alloc, &mut fields, media_of(name, reply))?;
+    add_size(alloc, &mut fields, status, size_of(name, reply, count))?;
+    add_closing(alloc, &mut fields, close)?;
+    join_head(alloc, status, fields.as_slice())
+}
+
+/// A head: the status line, the lines of fields, and the empty line after them. `split_reply` takes it apart.
+#[tactic(auto, unfolding(crate::specs::Spelling::head_text))]
+pub fn join_head(alloc: Global, status: u16, fields: &[Field]) -> Result<Vec<u8>, AllocError>
+    requires { IsStatusCode status }
+    ensures { IfOk result (λ bytes. bytes.items ≡ head_text status fields.now) }
 {
     let mut out = Vec::new(alloc);
-    push_status(&mut out, status_of(name, reply))?;
-    push_own(alloc, &mut out, name, reply)?;
-    push_rest(alloc, &mut out, name, reply, head, close)?;
+    push_status(&mut out, status)?;
+    push_fields(&mut out, fields)?;
     Ok(out)
 }
 
@@ -78,236 +151,141 @@ fn status_of(_name: &str, reply: &Reply) -> u16
     }
 }
 
-// Adds a reply's own fields.
+// A reply's own fields.
 #[tactic(auto, unfolding(crate::specs::Spelling::parts_of))]
-fn push_own(alloc: Global, out: &mut Vec<u8>, name: &str, reply: &Reply) -> Result<(), AllocError>
-    ensures { OnOk result (out.new.items ≡ out.old.items ++ (parts_of name.now reply.now).own) }
+fn own_fields(alloc: Global, name: &str, reply: &Reply) -> Result<Vec<Field>, AllocError>
+    ensures { IfOk result (λ fields. fields.items ≡ (parts_of name.now reply.now).own) }
 {
+    let mut fields = Vec::new(alloc);
     match reply {
-        Reply::Base => push_version(out),
+        Reply::Base => add_version(alloc, &mut fields)?,
         Reply::Blob { digest, .. }
         | Reply::BlobHead { digest, .. }
         | Reply::Manifest { digest, .. }
-        | Reply::ManifestHead { digest, .. } => push_digest(alloc, out, digest),
-        Reply::BlobMade { digest } => push_blob_made(alloc, out, name, digest),
-        Reply::Session { id, length, .. } => push_upload(alloc, out, name, id, *length),
-        Reply::ManifestMade { digest, subject } => {
-            push_manifest_made(alloc, out, name, digest, subject)
+        | Reply::ManifestHead { digest, .. } => add_digest(alloc, &mut fields, digest)?,
+        Reply::BlobMade { digest } => {
+            let place = blob_place(alloc, name, digest)?;
+            add_made(alloc, &mut fields, place.as_slice(), digest)?
         }
-        Reply::Tags { next, n, .. } => push_link(alloc, out, name, *n, next),
-        Reply::Referrers { filtered, .. } => push_filter(out, *filtered),
-        Reply::Deleted => Ok(()),
-        Reply::Refused { detail, .. } => push_refusal(alloc, out, name, detail),
+        Reply::Session { id, length, .. } => add_upload(alloc, &mut fields, name, id, *length)?,
+        Reply::ManifestMade { digest, subject } => {
+            add_manifest_made(alloc, &mut fields, name, digest, subject)?
+        }
+        Reply::Tags { next, n, .. } => add_link(alloc, &mut fields, name, *n, next)?,
+        Reply::Referrers { filtered, .. } => add_filter(alloc, &mut fields, *filtered)?,
+        Reply::Deleted => {}
+        Reply::Refused { detail, .. } => add_refusal(alloc, &mut fields, name, detail)?,
     }
-}
-
-// Adds the own fields of a blob that was stored.
-fn push_blob_made(
-    alloc: Global,
-    out: &mut Vec<u8>,
-    name: &str,
-    digest: &Digest,
-) -> Result<(), AllocError>
-    ensures { OnOk result (out.new.items
-        ≡ out.old.items ++ (location_field (blob_place name.now digest.now) ++ digest_field digest.now)) }
-{
-    let place = blob_place(alloc, name, digest)?;
-    push_location(out, place.as_slice())?;
-    push_digest(alloc, out, digest)
+    Ok(fields)
 }
 
 // Adds the own fields of a manifest that was stored.
-fn push_manifest_made(
+fn add_manifest_made(
     alloc: Global,
-    out: &mut Vec<u8>,
+    fields: &mut Vec<Field>,
     name: &str,
     digest: &Digest,
     subject: &Option<Digest>,
 ) -> Result<(), AllocError>
-    ensures { OnOk result (out.new.items
-        ≡ out.old.items ++ (location_field (manifest_place name.now digest.now)
-        ++ (digest_field digest.now ++ subject_field subject.now))) }
+    ensures { OnOk result (fields.new.items ≡ fields.old.items
+        ++ (location_field (manifest_place name.now digest.now) ∷ (digest_field digest.now ∷ subject_fields subject.now))) }
 {
     let place = manifest_place(alloc, name, digest)?;
-    push_location(out, place.as_slice())?;
-    push_digest(alloc, out, digest)?;
-    push_subject(alloc, out, subject)
+    add_made(alloc, fields, place.as_slice(), digest)?;
+    add_subject(alloc, fields, subject)
 }
 
 // Adds the own fields of a refusal.
 #[tactic(auto, unfolding(crate::specs::Spelling::refusal_fields))]
-fn push_refusal(
+fn add_refusal(
     alloc: Global,
-    out: &mut Vec<u8>,
+    fields: &mut Vec<Field>,
     name: &str,
     detail: &Detail,
 ) -> Result<(), AllocError>
-    ensures { OnOk result (out.new.items ≡ out.old.items ++ refusal_fields name.now detail.now) }
+    ensures { OnOk result (fields.new.items ≡ fields.old.items ++ refusal_fields name.now detail.now) }
 {
     match detail {
-        Detail::Allow(which) => push_allow(out, *which),
-        Detail::Session(id, size) => push_upload(alloc, out, name, id, *size),
+        Detail::Allow(which) => add_allow(alloc, fields, *which),
+        Detail::Session(id, size) => add_upload(alloc, fields, name, id, *size),
         _ => Ok(()),
     }
 }
 
-// Adds what stands behind a reply's own fields.
-#[tactic(auto, using(crate::proofs::RestLemmas::bodiless), unfolding(crate::specs::Spelling::rest_of, crate::specs::Spelling::parts_of))]
-fn push_rest(
-    alloc: Global,
-    out: &mut Vec<u8>,
-    name: &str,
-    reply: &Reply,
-    head: bool,
-    close: bool,
-) -> Result<(), AllocError>
-    ensures { OnOk result (out.new.items
-        ≡ out.old.items ++ rest_of (parts_of name.now reply.now) head close) }
+// The media of a reply's body, where they are named.
+#[tactic(auto, unfolding(crate::specs::Spelling::parts_of))]
+fn media_of(_name: &str, reply: &Reply) -> Option<&'static str>
+    ensures { option_copied result ≡ (parts_of _name.now reply.now).media }
 {
     match reply {
-        Reply::Base => push_base(alloc, out, head, close),
-        Reply::Blob { bytes, .. } => {
-            push_whole(alloc, out, 200, byte_media(), bytes.as_slice(), head, close)
-        }
-        Reply::BlobHead { size, .. } => push_sized(alloc, out, byte_media(), *size, close),
-        Reply::BlobMade { .. } | Reply::ManifestMade { .. } => {
-            push_bodiless(alloc, out, 201, close)
-        }
-        Reply::Session { status, .. } => push_bodiless(alloc, out, *status, close),
-        Reply::Manifest { media, bytes, .. } => {
-            push_whole(alloc, out, 200, media.text(), bytes.as_slice(), head, close)
-        }
-        Reply::ManifestHead { media, size, .. } => {
-            push_sized(alloc, out, media.text(), *size, close)
-        }
-        Reply::Tags { tags, .. } => {
-            let body = page_body(alloc, name, tags.as_slice())?;
-            push_whole(alloc, out, 200, json_media(), body.as_bytes(), head, close)
-        }
-        Reply::Referrers { text, .. } => {
-            push_whole(
-                alloc,
-                out,
-                200,
-                Media::Index.text(),
-                text.as_slice(),
-                head,
-                close,
-            )
-        }
-        Reply::Deleted => push_bodiless(alloc, out, 202, close),
-        Reply::Refused {
-            status,
-            code,
-            detail,
-        } => {
-            let body = error_body(alloc, *code, detail)?;
-            push_whole(
-                alloc,
-                out,
-                *status,
-                json_media(),
-                body.as_bytes(),
-                head,
-                close,
-            )
-        }
+        Reply::Base | Reply::Tags { .. } | Reply::Refused { .. } => Some(json_media()),
+        Reply::Blob { .. } | Reply::BlobHead { .. } => Some(byte_media()),
+        Reply::Manifest { media, .. } | Reply::ManifestHead { media, .. } => Some(media.text()),
+        Reply::Referrers { .. } => Some(Media::Index.text()),
+        Reply::BlobMade { .. }
+        | Reply::Session { .. }
+        | Reply::ManifestMade { .. }
+        | Reply::Deleted => None,
     }
 }
 
-// Adds the lines of the base route's body, and the body.
-#[tactic(auto, unfolding(crate::specs::Spelling::base_body))]
-fn push_base(alloc: Global, out: &mut Vec<u8>, head: bool, close: bool) -> Result<(), AllocError>
-    ensures { OnOk result (out.new.items ≡ out.old.items
-        ++ (body_lines 200 (Some json_media) (length base_body) close ++ shown_body head base_body)) }
+// The size of the body that a GET has, where the reply's own has this length.
+#[tactic(auto, unfolding(crate::specs::Spelling::parts_of))]
+fn size_of(_name: &str, reply: &Reply, count: u64) -> u64
+    requires { count ≡ length (parts_of _name.now reply.now).body }
+    ensures { result ≡ (parts_of _name.now reply.now).size }
 {
-    push_whole(alloc, out, 200, json_media(), b"{}".as_slice(), head, close)
+    match reply {
+        Reply::BlobHead { size, .. } | Reply::ManifestHead { size, .. } => *size,
+        _ => count,
+    }
 }
 
-// Adds the lines of a body, and the body where the method isn't HEAD.
-fn push_whole(
-    alloc: Global,
-    out: &mut Vec<u8>,
-    status: u16,
-    media: &str,
-    body: &[u8],
-    head: bool,
-    close: bool,
-) -> Result<(), AllocError>
-    ensures { OnOk result (out.new.items ≡ out.old.items
-        ++ (body_lines status (Some media.now) (length body.now) close ++ shown_body head body.now)) }
+// The body of a reply that has none in it, but whose body is made: JSON, or nothing.
+#[tactic(auto, unfolding(crate::specs::Spelling::made_body, crate::specs::Spelling::base_body))]
+fn made_body(alloc: Global, name: &str, reply: &Reply) -> Result<String, AllocError>
+    ensures { IfOk result (λ made. string_bytes made ≡ made_body name.now reply.now) }
 {
-    push_lines(alloc, out, status, Some(media), body.len() as u64, close)?;
-    push_shown(out, head, body)
+    match reply {
+        Reply::Base => String::from_str(alloc, "{}"),
+        Reply::Tags { tags, .. } => page_body(alloc, name, tags.as_slice()),
+        Reply::Refused { code, detail, .. } => error_body(alloc, *code, detail),
+        _ => Ok(String::new(alloc)),
+    }
 }
 
-// Adds the lines of a body of which the size alone is told.
-fn push_sized(
-    alloc: Global,
-    out: &mut Vec<u8>,
-    media: &str,
-    size: u64,
-    close: bool,
-) -> Result<(), AllocError>
-    ensures { OnOk result (out.new.items ≡ out.old.items ++ body_lines 200 (Some media.now) size close) }
+// The body of a reply, where this is what is made of it.
+#[tactic(auto, unfolding(crate::specs::Spelling::parts_of, crate::specs::Spelling::made_body))]
+fn body_in<'a>(_name: &str, reply: &'a Reply, made: &'a str) -> &'a [u8]
+    requires { made.now ≡ made_body _name.now reply.now }
+    ensures { result.now ≡ (parts_of _name.now reply.now).body }
 {
-    push_lines(alloc, out, 200, Some(media), size, close)
+    match reply {
+        Reply::Blob { bytes, .. } | Reply::Manifest { bytes, .. } => bytes.as_slice(),
+        Reply::Referrers { text, .. } => text.as_slice(),
+        _ => made.as_bytes(),
+    }
 }
 
-// Adds the lines of a reply without a body.
-fn push_bodiless(
-    alloc: Global,
-    out: &mut Vec<u8>,
-    status: u16,
-    close: bool,
-) -> Result<(), AllocError>
-    ensures { OnOk result (out.new.items ≡ out.old.items ++ body_lines status None 0 close) }
-{
-    push_lines(alloc, out, status, None, 0, close)
-}
-
-/// Adds the lines behind a reply's own fields, through the empty line.
-#[tactic(auto, unfolding(crate::specs::Spelling::body_lines))]
-pub fn push_lines(
-    alloc: Global,
-    out: &mut Vec<u8>,
-    status: u16,
-    media: Option<&str>,
-    size: u64,
-    close: bool,
-) -> Result<(), AllocError>
-    ensures { OnOk result (out.new.items
-        ≡ out.old.items ++ body_lines status (option_copied media.entry) size close) }
-{
-    push_type(out, media)?;
-    push_length(alloc, out, status, size)?;
-    push_closing(out, close)?;
-    out.extend_from_slice(b"\r\n".as_slice())
-}
-
-// Adds a body, unless the method is HEAD.
+// The body, unless the method is HEAD.
 #[tactic(auto, unfolding(crate::specs::Spelling::shown_body))]
-fn push_shown(out: &mut Vec<u8>, head: bool, body: &[u8]) -> Result<(), AllocError>
-    ensures { OnOk result (out.new.items ≡ out.old.items ++ shown_body head body.now) }
+fn shown_in(head: bool, body: &[u8]) -> &[u8]
+    ensures { result.now ≡ shown_body head body.now }
 {
-    if head {
-        Ok(())
-    } else {
-        out.extend_from_slice(body)
-    }
+    if head { b"".as_slice() } else { body }
 }
 
-/// The media of a body of bytes.
+// The media of a body of bytes.
 #[tactic(auto, unfolding(crate::specs::Spelling::byte_media))]
-pub fn byte_media() -> &'static str
+fn byte_media() -> &'static str
     ensures { result.now ≡ byte_media }
 {
     "application/octet-stream"
 }
 
-/// The media of a body of JSON.
+// The media of a body of JSON.
 #[tactic(auto, unfolding(crate::specs::Spelling::json_media))]
-pub fn json_media() -> &'static str
+fn json_media() -> &'static str
     ensures { result.now ≡ json_media }
 {
     "application/json"

@@ -1,6 +1,6 @@
 use Rattle.std.proofs.Common.{◌++◌, ◌∷◌}
 use Rattle.serde_json.specs.Written.{comma_if}
-use Rattle.zot_reply.specs.Reading.{tags_text}
+use Rattle.zot_reply.specs.Pages.{tags_text}
 use Rattle.std.proofs.Common.{true}
 use Rattle.zot_reply.proofs.PageLemmas.{comma_free, tag_free_of_quote}
 use Rattle.zot_reply.proofs.pages.next_tag.Goals as goal

@@ -2,7 +2,7 @@ use Rattle.std.proofs.Common.{◌≡◌, ℕ, List, false, length}
 use Rattle.std.specs.List.{AllByRecursion}
 use Rattle.zot_names.specs.Tag.{IsTag}
 use Rattle.zot_reply.proofs.PageLemmas.{AreLeft}
-use Rattle.zot_reply.specs.Reading.{tags_text}
+use Rattle.zot_reply.specs.Pages.{tags_text}
 use Rattle.zot_reply.proofs.pages.tags_in.Given as goal
 
 abbrev pub invariant-loop-tags : goal.invariant-loop-tags

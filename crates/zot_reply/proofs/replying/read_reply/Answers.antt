@@ -1,30 +1,36 @@
-use Rattle.std.proofs.Common.{false, true}
-use Rattle.zot_reply.proofs.AloneLemmas.{found_alike}
-use Rattle.zot_reply.proofs.ReplyingLemmas.{none_spells, spells}
+use Rattle.std.proofs.Common.{List, ℕ, Some, sym, subst, ◌∙◌}
+use Rattle.std.specs.List.{AllPass}
+use Rattle.zot_model.specs.declared.reply.Reply.{Reply}
+use Rattle.zot_names.specs.Name.{is_name_byte}
+use Rattle.zot_spell.proofs.CutLemmas.{if_some, matched, unmatched}
+use Rattle.zot_reply.specs.Reading.{IsWanted, Spells}
+use Rattle.zot_reply.proofs.FieldLemmas.{name_free}
+use Rattle.zot_reply.proofs.WantedLemmas.{found_alike, some_none, wanted}
 use Rattle.zot_reply.proofs.replying.read_reply.Goals as goal
 
-pub returns-in-Some-clause-read : goal.returns-in-Some-clause-read
-returns-in-Some-clause-read c =
-    spells c.args.request.now c.args.bytes.now false c.in_ok-reply.field-0 c.in-Some.reply c.in_ok-reply.ensures c.in-Some.is
+pub returns-in_default-clause-bad : goal.returns-in_default-clause-bad
+returns-in_default-clause-bad c = λ bad reply real s.
+    let free = name_free _ (subst (AllPass is_name_byte) c.name_of-name.ensures.value c.name_of-name.ensures.bytes) in
+    unmatched (IsWanted c.args.request.now reply c.args.bytes.now) c.in_ok-split.field-0 (wanted c.args.request.now c.args.bytes.now c.in_ok-split.field-0 free c.in_ok-split.ensures.apart reply real s) c.in_default.is
 
-pub returns-in-Some-2-clause-read : goal.returns-in-Some-2-clause-read
-returns-in-Some-2-clause-read c =
-    spells c.args.request.now c.args.bytes.now true c.in_ok-reply-2.field-0 c.in-Some-2.reply c.in_ok-reply-2.ensures c.in-Some-2.is
-
-pub returns-in-None-clause-bad : goal.returns-in-None-clause-bad
-returns-in-None-clause-bad c = λ bad reply real spelling.
-    none_spells c.args.request.now c.args.bytes.now c.in_ok-reply.field-0 c.in_ok-reply-2.field-0
-    c.in_ok-reply.ensures c.in_default.is c.in_ok-reply-2.ensures c.in-None.is reply real spelling
-
-pub returns-in-Some-clause-alike : goal.returns-in-Some-clause-alike
-returns-in-Some-clause-alike c = λ reply real spelling.
-    found_alike c.args.request.now c.args.bytes.now false c.in_ok-reply.field-0 c.in-Some.reply reply c.in_ok-reply.ensures c.in-Some.is real spelling
+pub returns-in_default-clause-alike : goal.returns-in_default-clause-alike
+returns-in_default-clause-alike c = λ reply real s.
+    let free = name_free _ (subst (AllPass is_name_byte) c.name_of-name.ensures.value c.name_of-name.ensures.bytes) in
+    absurd (unmatched (IsWanted c.args.request.now reply c.args.bytes.now) c.in_ok-split.field-0 (wanted c.args.request.now c.args.bytes.now c.in_ok-split.field-0 free c.in_ok-split.ensures.apart reply real s) c.in_default.is)
 
 pub returns-in-Some-2-clause-alike : goal.returns-in-Some-2-clause-alike
-returns-in-Some-2-clause-alike c = λ reply real spelling.
-    found_alike c.args.request.now c.args.bytes.now true c.in_ok-reply-2.field-0 c.in-Some-2.reply reply c.in_ok-reply-2.ensures c.in-Some-2.is real spelling
+returns-in-Some-2-clause-alike c = λ reply real s.
+    let t = if_some (λ (r : Reply). Spells c.args.request.now r c.args.bytes.now) c.in_ok-reply.field-0 c.in-Some-2.reply c.in_ok-reply.ensures.sound c.in-Some-2.is in
+    found_alike c.args.request.now c.args.bytes.now reply c.in-Some-2.reply real c.real_values.ensures s t
 
-pub returns-in-None-clause-alike : goal.returns-in-None-clause-alike
-returns-in-None-clause-alike c = λ reply real spelling.
-    absurd (none_spells c.args.request.now c.args.bytes.now c.in_ok-reply.field-0 c.in_ok-reply-2.field-0
-    c.in_ok-reply.ensures c.in_default.is c.in_ok-reply-2.ensures c.in-None.is reply real spelling)
+pub returns-clause-bad : goal.returns-clause-bad
+returns-clause-bad c = λ bad reply real s.
+    let free = name_free _ (subst (AllPass is_name_byte) c.name_of-name.ensures.value c.name_of-name.ensures.bytes) in
+    let w = matched (IsWanted c.args.request.now reply c.args.bytes.now) c.in_ok-split.field-0 c.in-Some.split (wanted c.args.request.now c.args.bytes.now c.in_ok-split.field-0 free c.in_ok-split.ensures.apart reply real s) c.in-Some.is in
+    some_none c.in_ok-reply.field-0 (c.in_ok-reply.ensures.whole reply w) c.in-None.is
+
+pub returns-clause-alike : goal.returns-clause-alike
+returns-clause-alike c = λ reply real s.
+    let free = name_free _ (subst (AllPass is_name_byte) c.name_of-name.ensures.value c.name_of-name.ensures.bytes) in
+    let w = matched (IsWanted c.args.request.now reply c.args.bytes.now) c.in_ok-split.field-0 c.in-Some.split (wanted c.args.request.now c.args.bytes.now c.in_ok-split.field-0 free c.in_ok-split.ensures.apart reply real s) c.in-Some.is in
+    absurd (some_none c.in_ok-reply.field-0 (c.in_ok-reply.ensures.whole reply w) c.in-None.is)

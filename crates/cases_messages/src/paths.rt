@@ -1,0 +1,40 @@
+//! Paths and queries of targets.
+use std::alloc::Global;
+use zot_cases::{Trouble, escape};
+use zot_route::{Form, Path, Target};
+
+/// The form of a target's path, the parts of its name with a bar after each, and its text.
+pub fn path(alloc: Global, given: &str) -> Result<String, Trouble> {
+    let Some(list) = Target::read(given).parts(alloc)? else {
+        return Ok(String::from_str(alloc, "no text")?);
+    };
+    let Some(path) = Path::read(list.as_slice()) else {
+        return Ok(String::from_str(alloc, "none")?);
+    };
+    let mut text = String::from_str(alloc, form_name(path.form()))?;
+    text.push_str(";")?;
+    for part in path.name() {
+        text.push_str(part.as_str())?;
+        text.push_str("|")?;
+    }
+    text.push_str(";")?;
+    text.push_str(path.text())?;
+    Ok(text)
+}
+
+/// The query of a target.
+pub fn query_of(alloc: Global, given: &str) -> Result<String, Trouble> {
+    Ok(escape(alloc, Target::read(given).query())?)
+}
+
+fn form_name(form: Form) -> &'static str {
+    match form {
+        Form::Base => "Base",
+        Form::Tags => "Tags",
+        Form::Referrers => "Referrers",
+        Form::Manifest => "Manifest",
+        Form::Uploads => "Uploads",
+        Form::Upload => "Upload",
+        Form::Blob => "Blob",
+    }
+}
