@@ -205,8 +205,14 @@ module _ (request : Request) (values : HasValues request) (valid : IsValid reque
   fields_written =
       let parts = parts_of request.call in (
         record { some = omega arith; token = refl; value = literal_visible (codes "member") refl },
-        (record { some = omega arith; token = refl; value = parts_written.media },
-        (record { some = omega arith; token = refl; value = range_seen parts.range parts_written.range },
-        (record { some = omega arith; token = refl; value = hop_seen request.hop },
-        (record { some = omega arith; token = refl; value = size_seen parts.body body_short }, tt)))),
+        (
+          record { some = omega arith; token = refl; value = parts_written.media },
+          (
+            record { some = omega arith; token = refl; value = range_seen parts.range parts_written.range },
+            (
+              record { some = omega arith; token = refl; value = hop_seen request.hop },
+              (record { some = omega arith; token = refl; value = size_seen parts.body body_short }, tt),
+            ),
+          ),
+        ),
       )
