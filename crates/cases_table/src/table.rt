@@ -122,7 +122,7 @@ fn reply_of(alloc: Global, table: &mut RepoShard, request: Request) -> Result<St
     let Some(_) = &request.name else {
         return Err(Trouble::Wrong("no name"));
     };
-    let reply = table.ask(alloc, &request, 7);
+    let reply = table.reply_to(alloc, &request, 7);
     confirm(fits(&request, &reply), "the reply doesn't fit")?;
     told_again(alloc, &reply)
 }

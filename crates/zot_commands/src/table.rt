@@ -35,7 +35,7 @@ impl<T: Clock> Answers for TableAnswers<'_, T> {
         match request.name {
             Some(_) => {
                 let moment = self.clock.now();
-                self.table.ask(alloc, request, moment)
+                self.table.reply_to(alloc, request, moment)
             }
             None => Reply::Base,
         }

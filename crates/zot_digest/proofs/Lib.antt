@@ -1,3 +1,2 @@
 pub mod DigestLemmas
 pub mod OrderLemmas
-pub mod ByteMapLemmas

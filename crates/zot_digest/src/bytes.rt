@@ -34,7 +34,7 @@ impl Bytes {
         self.items.as_slice()
     }
 
-    /// A second list of the same bytes. It fails only where memory does.
+    /// A second list of the same bytes. It fails only where memory runs out.
     pub fn copy(&self, alloc: Global) -> Result<Bytes, AllocError>
         ensures { IfOk result (λ copy. copy ≡ self.now) }
     {

@@ -1,4 +1,7 @@
-//! SHA-256 digests, their texts, and the small owned lists of bytes and texts that contracts see as lists.
+//! SHA-256 digests and their texts, and small owned lists of bytes and texts, which contracts see as lists.
+//!
+//! `parse_digest(text)` gives the digest whose text `sha256:..` this is, and `BadDigest` exactly where it is none.
+//! `digest_of(bytes)` is the SHA-256 value of the bytes.
 #![tactic(auto)]
 
 mod bytes;

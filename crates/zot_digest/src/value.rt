@@ -41,7 +41,7 @@ impl Digest {
         whole(&self.bytes)
     }
 
-    /// The text: `sha256:` and 64 lower-case hexadecimal digits. It fails only where memory does.
+    /// The text: `sha256:` and 64 lower-case hexadecimal digits. It fails only where memory runs out.
     #[tactic(auto, unfolding(crate::specs::Digest::digest_text))]
     pub fn text(&self, alloc: Global) -> Result<String, AllocError>
         ensures { IfOk result (λ text. string_bytes text ≡ digest_text self.now) }

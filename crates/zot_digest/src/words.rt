@@ -36,7 +36,7 @@ impl Words {
         self.text.as_str()
     }
 
-    /// A second copy of the text. It fails only where memory does.
+    /// A second copy of the text. It fails only where memory runs out.
     pub fn copy(&self, alloc: Global) -> Result<Words, AllocError>
         ensures { IfOk result (λ copy. copy ≡ self.now) }
     {

@@ -7,7 +7,7 @@ use crate::media::{Media, media_of};
 use serde_json::Value;
 use std::alloc::{AllocError, Global};
 
-/// The media whose text is the field `mediaType` of the object that the bytes are: none exactly where `serde_json` reads no object, or the field isn't one of the accepted texts. Where the field stands twice, the last one counts, as `serde_json` reads it. It fails only where memory does.
+/// The media that the field `mediaType` of the bytes' JSON object names. It is none exactly where `serde_json` reads no object there, or the field isn't one of the accepted texts. Of a field that stands twice the last one counts, as `serde_json` reads it. It fails only where memory runs out.
 pub fn media_in(alloc: Global, bytes: &[u8]) -> Result<Option<Media>, AllocError>
     ensures { IfOk result (IsMediaIn bytes.now) }
 {

@@ -1,4 +1,7 @@
 //! The media of manifests, and how a request refers to one.
+//!
+//! `media_of("application/vnd.oci.image.index.v1+json")` is `Some(Media::Index)`, and `media_in(alloc, bytes)` the
+//! media that a manifest's own field names.
 #![tactic(auto)]
 
 mod document;

@@ -129,11 +129,11 @@ message_text code = map message_byte (code_text code)
 abbrev pub status_of : Code → ℕ
 status_of code = (row_of code).status
 
--- the kind of what a refused request is told beside the code: a blob that is referenced may be read all the same
+-- the kind of what a refusal says beside its code
 abbrev pub detail_kind : Code → DetailKind
 detail_kind code = (row_of code).kind
 
--- what a refused request is told beside the code
+-- what a refusal says beside its code
 abbrev pub HasDetail : Code → Detail → Type 0
 HasDetail code detail = IsOfKind (detail_kind code) detail
 

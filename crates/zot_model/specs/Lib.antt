@@ -7,7 +7,6 @@ pub mod History
 pub mod Pieces
 pub mod Plain
 pub mod Refusals
-pub mod Reply
 pub mod State
 pub mod Uploads
 pub mod Valid

@@ -82,7 +82,7 @@ if_taken repo id upload range piece outcome =
 abbrev pub plain_state : RepoState → ℕ → OpenUpload → Outcome
 plain_state repo id upload = stays repo (Session id (length upload.bytes) 204)
 
--- PATCH of an upload: 202 and the piece behind its bytes
+-- PATCH of an upload: 202, and the piece stands after its bytes
 abbrev pub plain_patch : RepoState → Option Span → List ℕ → ℕ → OpenUpload → Outcome
 plain_patch repo range piece id upload =
     if_taken repo id upload range piece (record { reply = Session id (length upload.bytes + length piece) 202; repo = with_sessions repo (with_piece repo.sessions id piece) })
@@ -131,7 +131,7 @@ pub record LacksMemory (moment : ℕ) (old : RepoState) (call : Call) (reply : R
   pub reply_is : reply ≡ no_memory
   pub leaves : IsAmong (leavings moment old call) new
 
--- the repository of the name goes this way, other repositories stay, and no storage fault comes
+-- the repository of the name changes in this way, other repositories stay, and no storage fault comes
 pub record GoesWithoutFault (Way : RepoState → RepoState → Type 0) (old : RowState) (name : List ℕ) (new : RowState) : Type 0 where
   pub repo : RepoState
   pub way : Way (repo_at old name) repo

@@ -43,7 +43,7 @@ WereGiven uploads opened = (id : ℕ) → IsSome (map.get uploads id) → id ≤
 abbrev pub no_uploads : UploadTable
 no_uploads = record { uploads = map.empty; opened = 0 }
 
--- the table with an upload more, which has no bytes and begins at the moment; its id is the number of uploads opened, it among them
+-- the table with a new upload, which has no bytes and begins at the moment; its id is the number of uploads opened, this one counted
 abbrev pub with_new : ℕ → UploadTable → UploadTable
 with_new moment table = record {
   uploads = map.insert table.uploads (table.opened + 1) (record { bytes = []; start = moment });
@@ -55,16 +55,16 @@ abbrev pub bytes_of : Option OpenUpload → List ℕ
 bytes_of None = []
 bytes_of (Some upload) = upload.bytes
 
--- an upload with a piece behind its bytes
+-- an upload with a piece after its bytes
 abbrev pub longer : OpenUpload → List ℕ → OpenUpload
 longer upload piece = record { bytes = upload.bytes ++ piece; start = upload.start }
 
--- the uploads in which the one that was found under the id has a piece behind its bytes
+-- the uploads in which the one found under the id has a piece after its bytes
 abbrev pub put_behind : NumberMap OpenUpload → ℕ → List ℕ → Option OpenUpload → NumberMap OpenUpload
 put_behind uploads id piece None = uploads
 put_behind uploads id piece (Some upload) = map.insert uploads id (longer upload piece)
 
--- the table in which an open upload has a piece behind its bytes
+-- the table in which an open upload has a piece after its bytes
 abbrev pub with_piece : UploadTable → ℕ → List ℕ → UploadTable
 with_piece table id piece = record { uploads = put_behind table.uploads id piece (map.get table.uploads id); opened = table.opened }
 

@@ -17,7 +17,7 @@ pub enum Call {
     GetBlob(Digest),
     /// A blob's size.
     HeadBlob(Digest),
-    /// That a blob goes.
+    /// That a blob is deleted.
     DeleteBlob(Digest),
     /// A blob, taken over from another repository, or given whole with its digest; or else a new upload.
     Post {
@@ -52,9 +52,9 @@ pub enum Call {
     GetManifest(Reference),
     /// A manifest's media and size.
     HeadManifest(Reference),
-    /// That a manifest or a tag goes.
+    /// That a manifest or a tag is deleted.
     DeleteManifest(Reference),
-    /// The tags behind `last`, of which at most n.
+    /// The tags after `last`, at most n of them.
     Tags {
         n: Option<u64>,
         last: Option<Words>,

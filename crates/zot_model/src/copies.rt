@@ -1,4 +1,4 @@
-//! Copies of requests and replies. Each fails only where memory does.
+//! Copies of requests and replies. Each fails only where memory runs out.
 ghost use Rattle.std.specs.Prelude.{◌≡◌, IfOk};
 
 use crate::call::Call;

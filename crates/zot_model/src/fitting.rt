@@ -136,7 +136,7 @@ fn is_referrers(reply: &Reply) -> bool
     matches!(reply, Reply::Referrers { .. })
 }
 
-// Whether it is what goes.
+// Whether it says that something was deleted.
 fn is_deleted(reply: &Reply) -> bool
     ensures { IsTrue result ↔ IsDeleted reply.now }
 {
@@ -239,7 +239,7 @@ fn is_common(code: Code) -> bool
         || code == Code::HopRefused
 }
 
-// Whether a refused request is told this beside the code.
+// Whether a refusal may say this beside its code.
 fn has_detail(code: Code, detail: &Detail) -> bool
     ensures { IsTrue result ↔ HasDetail code detail.now }
 {

@@ -1,4 +1,9 @@
-//! The requests and replies of a registry, and what a plain sequential registry answers to them.
+//! The requests and replies of a registry, its codes and limits, and, as definitions, what a plain sequential registry
+//! answers and which histories are legal.
+//!
+//! `fits(&request, &reply)` says whether a request may be answered so: `Reply::blob_unknown()` fits a GET of a blob, and no
+//! POST. What must be answered is `plain` in `specs/Plain.antt`, and what a run of answers may be is `Run` in
+//! `specs/History.antt`.
 #![tactic(auto)]
 
 mod call;

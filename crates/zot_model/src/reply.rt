@@ -1,14 +1,11 @@
-//! What is answered.
-ghost use Rattle.std.specs.Prelude.{◌≡◌};
-ghost use Rattle.zot_model.specs.Reply.{refusal};
-
+//! Replies.
 use crate::code::Code;
 use crate::detail::Detail;
 use zot_digest::{Bytes, Digest};
 use zot_media::Media;
 use zot_names::{Tag, TagList, UploadId};
 
-/// The answer to a request.
+/// The reply to a request.
 #[derive(Debug, Drop, PartialEq, Eq)]
 pub enum Reply {
     /// This is such a registry: 200.
@@ -61,7 +58,7 @@ pub enum Reply {
         text: Bytes,
         filtered: bool,
     },
-    /// It goes: 202.
+    /// What was asked to be deleted is deleted: 202.
     Deleted,
     /// The request was refused with this status.
     Refused {
@@ -69,17 +66,4 @@ pub enum Reply {
         code: Code,
         detail: Detail,
     },
-}
-
-impl Reply {
-    /// The refusal with a status and a code, which says nothing beside them.
-    pub fn refused(status: u16, code: Code) -> Self
-        ensures { result ≡ refusal status code }
-    {
-        Reply::Refused {
-            status,
-            code,
-            detail: Detail::None,
-        }
-    }
 }

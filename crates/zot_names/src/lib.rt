@@ -1,4 +1,7 @@
-//! Names of repositories, tags, ids of uploads, and globs over names.
+//! Names of repositories, tags, ids of uploads, and globs over names. Each type keeps its grammar as an invariant.
+//!
+//! `RepoName::read(alloc, "library/alpine")` gives the name, and an error exactly where the text isn't one.
+//! `glob_matches("library/*", "library/alpine")` holds.
 #![tactic(auto)]
 
 mod component;

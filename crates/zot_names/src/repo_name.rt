@@ -72,7 +72,7 @@ impl RepoName {
         self.text.as_str().as_bytes()
     }
 
-    /// A second copy of the name. It fails only where memory does.
+    /// A second copy of the name. It fails only where memory runs out.
     pub fn copy(&self, alloc: Global) -> Result<RepoName, AllocError>
         ensures { IfOk result (λ copy. copy ≡ self.now) }
     {

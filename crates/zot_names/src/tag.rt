@@ -72,7 +72,7 @@ impl Tag {
         self.text.as_str().as_bytes()
     }
 
-    /// A second copy of the tag. It fails only where memory does.
+    /// A second copy of the tag. It fails only where memory runs out.
     pub fn copy(&self, alloc: Global) -> Result<Tag, AllocError>
         ensures { IfOk result (λ copy. copy ≡ self.now) }
     {

@@ -51,7 +51,7 @@ impl UploadId {
         (id.digits().as_slice() == text.as_bytes()).then_some(id)
     }
 
-    /// The text: 16 lower-case hexadecimal digits. It fails only where memory does.
+    /// The text: 16 lower-case hexadecimal digits. It fails only where memory runs out.
     #[tactic(auto, unfolding(crate::specs::Upload::upload_text))]
     pub fn text(&self, alloc: Global) -> Result<String, AllocError>
         ensures { IfOk result (λ text. string_bytes text ≡ upload_text self.now) }

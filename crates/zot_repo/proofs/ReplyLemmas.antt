@@ -22,7 +22,7 @@ use Rattle.zot_model.specs.Refusals.{no_memory, not_built, refusal}
 use Rattle.zot_model.specs.State.{RepoState}
 use Rattle.zot_model.specs.Uploads.{OpenUpload, bytes_of, is_full, with_piece, without}
 use Rattle.zot_repo.specs.Refusals.{new_refusal, upload_refusal}
-use Rattle.zot_repo.specs.Replies.{EndsWith, GivesBlob, MayGive, TakesBlob, found_told, upload_told}
+use Rattle.zot_repo.specs.Replies.{EndsWith, GivesBlob, MayGive, TakesBlob, found_reply, state_reply}
 use Rattle.zot_uploads.specs.Cases.{IsTaken, IsWhole, Refuses, RefusesNew, RefusesWhole}
 use Rattle.zot_uploads.specs.declared.upload_error.UploadError.{UploadError}
 use Rattle.zot_uploads.specs.declared.upload_error.UploadError.TheVariants as errors
@@ -38,7 +38,7 @@ is_plain moment old new call reply outcome is reply_is repo_is = inl (record {
   repo_is = repo_is ∙ ap (λ (o : Outcome). o.repo) (sym is);
 })
 
--- the same repository and the same call, told otherwise
+-- the same repository and the same call, under other names
 pub at_call : (moment : ℕ) (old inside new : RepoState) (call other : Call) (reply : Reply) → inside ≡ old → other ≡ call → MayGive moment inside other reply new → MayGive moment old call reply new
 at_call moment old inside new call other reply is same h =
     subst (λ (q : Call). MayGive moment old q reply new) same (subst (λ (r : RepoState). MayGive moment r other reply new) is h)
@@ -131,12 +131,12 @@ unfolding plain
 unnamed_finish moment repo None range digest piece reply e is = is_plain moment repo repo (calls.Finish None range digest piece) reply (stays repo (upload_refusal 0 errors.Unknown)) refl is refl
 unnamed_finish moment repo (Some id) range digest piece reply e is = cc e
 
-state_outcome : (repo : RepoState) (id : ℕ) (found : Option OpenUpload) → at_found repo (plain_state repo id) found ≡ stays repo (found_told id found)
+state_outcome : (repo : RepoState) (id : ℕ) (found : Option OpenUpload) → at_found repo (plain_state repo id) found ≡ stays repo (found_reply id found)
 state_outcome repo id None = refl
 state_outcome repo id (Some upload) = refl
 
 -- a GET of an upload is answered as the plain registry does
-pub state_answers : (moment : ℕ) (repo : RepoState) (id : Option ℕ) (reply : Reply) → reply ≡ upload_told id repo.sessions → MayGive moment repo (calls.UploadState id) reply repo
+pub state_answers : (moment : ℕ) (repo : RepoState) (id : Option ℕ) (reply : Reply) → reply ≡ state_reply id repo.sessions → MayGive moment repo (calls.UploadState id) reply repo
 unfolding plain
 state_answers moment repo None reply is = is_plain moment repo repo (calls.UploadState None) reply _ refl is refl
 state_answers moment repo (Some id) reply is = is_plain moment repo repo (calls.UploadState (Some id)) reply _ (state_outcome repo id (map.get repo.sessions.uploads id)) is refl

@@ -90,22 +90,34 @@ table_of es = record { repos = map_of es }
 pub has_found : (es : List (List ℕ × RepoState)) (table : Table) (name : List ℕ) (found : Option RepoState) → table_of es ≡ table → found ≡ lookup (is_at (byte_cmp name)) es → map.get table.repos name ≡ found
 has_found es table name found is has = found_at byte_order es table.repos name found (ap (λ (t : Table). t.repos) is) has
 
-pub repo_found : (es : List (List ℕ × RepoState)) (table : Table) (name : List ℕ) (found : RepoState) → table_of es ≡ table → Some found ≡ lookup (is_at (byte_cmp name)) es → repo_at (state_of table) name ≡ found
+repo_found : (es : List (List ℕ × RepoState)) (table : Table) (name : List ℕ) (found : RepoState) → table_of es ≡ table → Some found ≡ lookup (is_at (byte_cmp name)) es → repo_at (state_of table) name ≡ found
 repo_found es table name found is has = ap (λ o. unwrap_or o fresh) (has_found es table name (Some found) is has)
 
-pub name_found : (es : List (List ℕ × RepoState)) (table : Table) (name : List ℕ) (found : RepoState) → table_of es ≡ table → Some found ≡ lookup (is_at (byte_cmp name)) es → HasName table name
+name_found : (es : List (List ℕ × RepoState)) (table : Table) (name : List ℕ) (found : RepoState) → table_of es ≡ table → Some found ≡ lookup (is_at (byte_cmp name)) es → HasName table name
 name_found es table name found is has = subst (λ o. IsSome o) (sym (has_found es table name (Some found) is has)) refl
 
--- a tree with a repository written under a name
-pub table_written : (es fs : List (List ℕ × RepoState)) (table : Table) (name : List ℕ) (found written : RepoState) → table_of es ≡ table → Some found ≡ lookup (is_at (byte_cmp name)) es
-    → (IsSome (lookup (is_at (byte_cmp name)) es) → ((q : List ℕ) → lookup (is_at (byte_cmp q)) fs ≡ cond (is_at (byte_cmp name) q) (Some written) (lookup (is_at (byte_cmp q)) es))
+-- a tree with a repository written under a name that it has
+abbrev Writes : List (List ℕ × RepoState) → List (List ℕ × RepoState) → List ℕ → RepoState → Type 0
+Writes es fs name written =
+    IsSome (lookup (is_at (byte_cmp name)) es)
+    → ((q : List ℕ) → lookup (is_at (byte_cmp q)) fs ≡ cond (is_at (byte_cmp name) q) (Some written) (lookup (is_at (byte_cmp q)) es))
     × (lookup (is_at (byte_cmp name)) fs ≡ Some written)
     × ((q : List ℕ) → is_at (byte_cmp name) q ≡ false → lookup (is_at (byte_cmp q)) fs ≡ lookup (is_at (byte_cmp q)) es)
-    × KeepsOthers (eq_by_cmp byte_cmp) (is_at (byte_cmp name)) es fs)
-    → table_of fs ≡ with_repo table name written
+    × KeepsOthers (eq_by_cmp byte_cmp) (is_at (byte_cmp name)) es fs
+
+table_written : (es fs : List (List ℕ × RepoState)) (table : Table) (name : List ℕ) (found written : RepoState) → table_of es ≡ table → Some found ≡ lookup (is_at (byte_cmp name)) es
+    → Writes es fs name written → table_of fs ≡ with_repo table name written
 table_written es fs table name found written is has writes =
     let all = writes (subst (λ o. IsSome o) has refl) in
     ap (λ (m : ByteMap RepoState). record { repos = m }) (entries-insert byte_order es fs name written all.0) ∙ ap (λ (t : Table). with_repo t name written) is
+
+-- a call on a repository that the tree has, which is then written there
+pub replies_found : (es fs : List (List ℕ × RepoState)) (table : Table) (name : List ℕ) (found written : RepoState) (moment : ℕ) (call : Call) (reply : Reply)
+    → table_of es ≡ table → Some found ≡ lookup (is_at (byte_cmp name)) es → Writes es fs name written → MayGive moment found call reply written
+    → MayAnswer moment (state_of table) name call reply (state_of (table_of fs)) × KeepsNames table (table_of fs)
+replies_found es fs table name found written moment call reply is has writes gives =
+    subst (λ (t : Table). MayAnswer moment (state_of table) name call reply (state_of t) × KeepsNames table t) (sym (table_written es fs table name found written is has writes))
+    (answers_with table name written moment call reply found (repo_found es table name found is has) gives, names_with table name written (name_found es table name found is has))
 
 -- ---- entries
 

@@ -26,15 +26,15 @@ TakesBlob moment old digest body reply new =
     ⊎ (IsSound digest body × (reply ≡ BlobMade digest) × (new ≡ with_blob moment old digest body))
     ⊎ ((reply ≡ no_memory) × (new ≡ old))
 
--- what is told of the upload that was found under an id, where there is one
-abbrev pub found_told : ℕ → Option OpenUpload → Reply
-found_told id None = refusal BlobUploadUnknown
-found_told id (Some upload) = Session id (length upload.bytes) 204
+-- the reply to a GET of the upload found under an id, where there is one
+abbrev pub found_reply : ℕ → Option OpenUpload → Reply
+found_reply id None = refusal BlobUploadUnknown
+found_reply id (Some upload) = Session id (length upload.bytes) 204
 
--- what is told of the upload that an id names; a text that is no id names none
-abbrev pub upload_told : Option ℕ → UploadTable → Reply
-upload_told None sessions = refusal BlobUploadUnknown
-upload_told (Some id) sessions = found_told id (map.get sessions.uploads id)
+-- the reply to a GET of the upload of an id; a text that is no id names none
+abbrev pub state_reply : Option ℕ → UploadTable → Reply
+state_reply None sessions = refusal BlobUploadUnknown
+state_reply (Some id) sessions = found_reply id (map.get sessions.uploads id)
 
 -- the bytes became a blob and the upload ended, or memory ran out
 abbrev pub EndsWith : ℕ → RepoState → ℕ → List ℕ → List ℕ → Reply → RepoState → Type 0

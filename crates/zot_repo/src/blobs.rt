@@ -8,7 +8,7 @@ ghost use Rattle.zot_model.specs.declared.reply.Reply.TheVariants.{BlobHead};
 ghost use Rattle.zot_repo.specs.Replies.{GivesBlob, MayGive, TakesBlob};
 
 use crate::repository::Repository;
-use crate::stored::StoredBlob;
+use crate::stored_blob::StoredBlob;
 use std::alloc::{AllocError, Global};
 use zot_digest::{Bytes, Digest, digest_of};
 use zot_model::Reply;
@@ -18,10 +18,10 @@ impl Repository {
     pub fn get_blob(&self, alloc: Global, digest: &Digest) -> Reply
         ensures { GivesBlob (map.get self.now.blobs digest.now) digest.now result }
     {
-        let Some(stored) = self.blob(digest) else {
+        let Some(blob) = self.blob(digest) else {
             return Reply::blob_unknown();
         };
-        match stored.bytes().copy(alloc) {
+        match blob.bytes().copy(alloc) {
             Ok(bytes) => Reply::Blob {
                 digest: *digest,
                 bytes,
@@ -35,9 +35,9 @@ impl Repository {
         ensures { result ≡ found_or (λ stored. BlobHead digest.now (length stored.bytes)) (map.get self.now.blobs digest.now) }
     {
         match self.blob(digest) {
-            Some(stored) => Reply::BlobHead {
+            Some(blob) => Reply::BlobHead {
                 digest: *digest,
-                size: stored.bytes().as_slice().len() as u64,
+                size: blob.bytes().as_slice().len() as u64,
             },
             None => Reply::blob_unknown(),
         }
@@ -76,7 +76,7 @@ impl Repository {
     fn blob(&self, digest: &Digest) -> Option<&StoredBlob>
         ensures { option_copied result ≡ map.get self.now.blobs digest.now }
     {
-        self.stored.get(digest)
+        self.blobs.get(digest)
     }
 
     // Stores a copy of a blob. After an `Err` the repository is as it was.
@@ -99,7 +99,7 @@ impl Repository {
         ensures ok { OnOk result (self.new ≡ with_blob moment self.old digest bytes) }
         ensures err { OnErr result (self.new ≡ self.old) }
     {
-        self.stored.insert(digest, StoredBlob::new(bytes, moment))?;
+        self.blobs.insert(digest, StoredBlob::new(bytes, moment))?;
         self.known = true;
         Ok(())
     }

@@ -3,7 +3,7 @@ ghost use Rattle.std.specs.Prelude.{◌≡◌, ◌≢◌, false, true};
 ghost use Rattle.zot_model.specs.State.{fresh};
 ghost use Rattle.zot_repo.specs.Replies.{MayGive};
 
-use crate::stored::StoredBlob;
+use crate::stored_blob::StoredBlob;
 use std::alloc::Global;
 use std::collections::BTreeMap;
 use std::marker::Model;
@@ -15,7 +15,7 @@ use zot_uploads::Uploads;
 #[derive(Drop)]
 pub struct Repository {
     pub known: bool,
-    pub stored: BTreeMap<Digest, StoredBlob>,
+    pub blobs: BTreeMap<Digest, StoredBlob>,
     pub sessions: Uploads,
 }
 
@@ -27,7 +27,7 @@ impl Model for Repository {
 
     ghost coded = { repo_code };
 
-    ghost view = { λ r. repo_of r.known r.stored.entries r.sessions };
+    ghost view = { λ r. repo_of r.known r.blobs.entries r.sessions };
 }
 
 impl Repository {
@@ -37,7 +37,7 @@ impl Repository {
     {
         Repository {
             known: false,
-            stored: BTreeMap::new(alloc),
+            blobs: BTreeMap::new(alloc),
             sessions: Uploads::new(alloc),
         }
     }
@@ -47,11 +47,11 @@ impl Repository {
         ensures fresh { result ≡ true → self.now ≡ fresh }
         ensures other { result ≡ false → self.now ≢ fresh }
     {
-        !self.known && self.stored.is_empty() && self.sessions.is_fresh()
+        !self.known && self.blobs.is_empty() && self.sessions.is_fresh()
     }
 
     /// Answers a call at a moment, as the plain registry does by the first case that fits, or for want of memory, after which the repository is as it was.
-    pub fn answer(&mut self, alloc: Global, call: &Call, moment: u64) -> Reply
+    pub fn reply_to(&mut self, alloc: Global, call: &Call, moment: u64) -> Reply
         ensures { MayGive moment self.old call.now result self.new }
     {
         match call {

@@ -49,11 +49,11 @@ impl RepoShard {
         ensures fits { IsFitting call.now result }
         ensures names { KeepsNames self.old self.new }
     {
-        RowReply::Reply(self.ask(alloc, call.request(), moment))
+        RowReply::Reply(self.reply_to(alloc, call.request(), moment))
     }
 
-    /// The reply to a request on a repository that was lent, which is `step` on the call that asks it.
-    pub fn ask(&mut self, alloc: Global, request: &Request, moment: u64) -> Reply
+    /// The reply to a request on a repository, by the contract of `step`. The request is borrowed, so what is stored of it is copied.
+    pub fn reply_to(&mut self, alloc: Global, request: &Request, moment: u64) -> Reply
         requires { IsNamed (Ask request.now) }
         ensures step { Enters (state_of self.old) (Ask request.now) moment (answers.Reply result) (state_of self.new) }
         ensures fits { IsFitting (Ask request.now) (answers.Reply result) }
@@ -62,28 +62,28 @@ impl RepoShard {
         let Some(name) = &request.name else {
             unreachable!()
         };
-        self.answer(alloc, name, &request.call, moment)
+        self.reply_at(alloc, name, &request.call, moment)
     }
 
     // The reply to a call on the repository of this name.
-    fn answer(&mut self, alloc: Global, name: &RepoName, call: &Call, moment: u64) -> Reply
+    fn reply_at(&mut self, alloc: Global, name: &RepoName, call: &Call, moment: u64) -> Reply
         ensures answers { MayAnswer moment (state_of self.old) name.now call.now result (state_of self.new) }
         ensures names { KeepsNames self.old self.new }
     {
         match self.repos.get_mut(name) {
-            Some(repository) => repository.answer(alloc, call, moment),
-            None => self.answer_first(alloc, name, call, moment),
+            Some(repository) => repository.reply_to(alloc, call, moment),
+            None => self.reply_first(alloc, name, call, moment),
         }
     }
 
     // The reply to a call on a repository that the table doesn't have, and has then where it isn't a fresh one any more.
-    fn answer_first(&mut self, alloc: Global, name: &RepoName, call: &Call, moment: u64) -> Reply
+    fn reply_first(&mut self, alloc: Global, name: &RepoName, call: &Call, moment: u64) -> Reply
         requires { map.get self.now.repos name.now ≡ None }
         ensures answers { MayAnswer moment (state_of self.old) name.now call.now result (state_of self.new) }
         ensures names { KeepsNames self.old self.new }
     {
         let mut repository = Repository::new(alloc);
-        let reply = repository.answer(alloc, call, moment);
+        let reply = repository.reply_to(alloc, call, moment);
         if repository.is_fresh() {
             return reply;
         }

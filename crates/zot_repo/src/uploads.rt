@@ -4,7 +4,7 @@ ghost use Rattle.std.specs.FinMap as map;
 ghost use Rattle.zot_model.specs.declared.call.Call.TheVariants as calls;
 ghost use Rattle.zot_model.specs.declared.mount.Mount.{Mount};
 ghost use Rattle.zot_repo.specs.Refusals.{new_refusal, upload_refusal};
-ghost use Rattle.zot_repo.specs.Replies.{EndsWith, MayGive, upload_told};
+ghost use Rattle.zot_repo.specs.Replies.{EndsWith, MayGive, state_reply};
 
 use crate::repository::Repository;
 use std::alloc::Global;
@@ -33,7 +33,7 @@ impl Repository {
 
     /// The reply to a GET of an upload; a text that is no id names none. Takes no memory.
     pub fn upload_state(&self, id: Option<UploadId>) -> Reply
-        ensures { result ≡ upload_told id self.now.sessions }
+        ensures { result ≡ state_reply id self.now.sessions }
     {
         let Some(id) = id else {
             return Reply::upload_unknown();
@@ -48,7 +48,7 @@ impl Repository {
         }
     }
 
-    /// The reply to a PATCH of an upload, whose body is put behind the bytes that are there.
+    /// The reply to a PATCH of an upload, whose body is put after the upload's bytes.
     pub fn patch(&mut self, id: Option<UploadId>, range: Option<Span>, body: &Bytes) -> Reply
         ensures { (moment : ℕ) → MayGive moment self.old (calls.Patch id range body.now) result self.new }
     {
@@ -65,7 +65,7 @@ impl Repository {
         }
     }
 
-    /// The reply to a finishing PUT of an upload, at the moment: with the last piece behind them its bytes become a blob, and the upload ends.
+    /// The reply to a finishing PUT of an upload, at the moment: its bytes with the last piece become a blob, and the upload ends.
     pub fn finish(
         &mut self,
         alloc: Global,

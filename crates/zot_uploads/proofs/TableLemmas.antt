@@ -54,7 +54,7 @@ given-behind old id n piece None e given = given
 given-behind old id n piece (Some upload) e given =
     given-insert old (map.insert old id (longer upload piece)) id n n (longer upload piece) refl given (given id (subst (λ o. IsSome o) (sym e) refl)) (omega arith)
 
--- and after a piece was put behind an upload's bytes, or wasn't
+-- and after a piece was put after an upload's bytes, or wasn't
 pub given-append : {T E : Type 0} (result : Result T E) (old new : NumberMap OpenUpload) (id n : ℕ) (piece : List ℕ) → OnOk result (new ≡ put_behind old id piece (map.get old id)) → OnErr result (new ≡ old)
     → WereGiven old n → WereGiven new n
 given-append (Ok x) old new id n piece ok err given = subst (λ u. WereGiven u n) (sym ok) (given-behind old id n piece (map.get old id) refl given)
@@ -74,7 +74,7 @@ written_at es fs uploads id upload written is has through =
     let there = subst (λ o. IsSome o) has refl in
     entries-insert number_order es fs id written (through there).0 ∙ ap (λ (m : NumberMap OpenUpload). map.insert m id written) is
 
--- a piece was put behind the bytes of an upload that is open
+-- a piece was put after the bytes of an open upload
 pub put : {T E : Type 0} (result : Result T E) (es fs : List (ℕ × OpenUpload)) (uploads : NumberMap OpenUpload) (id : ℕ) (upload written : OpenUpload) (piece : List ℕ) → numbered es ≡ uploads
     → Some upload ≡ lookup (is_at (nat_cmp id)) es → Through es id written fs → OnOk result (written ≡ longer upload piece)
     → OnOk result (numbered fs ≡ put_behind uploads id piece (map.get uploads id))

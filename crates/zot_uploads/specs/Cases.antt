@@ -7,15 +7,15 @@ use Rattle.zot_model.specs.Uploads.{OpenUpload, UploadTable, is_full}
 use Rattle.zot_uploads.specs.declared.upload_error.UploadError.{UploadError}
 use Rattle.zot_uploads.specs.declared.upload_error.UploadError.TheVariants as errors
 
--- a piece goes on where an upload ends; one that comes without a range always does
+-- a piece goes on where an upload ends; a piece without a range always does
 abbrev pub GoesOn : Option Span → OpenUpload → List ℕ → Type 0
 GoesOn range upload piece = goes_on range (length upload.bytes) (length piece) ≡ true
 
--- an upload keeps its limit with a piece behind its bytes
+-- an upload keeps its limit with a piece after its bytes
 abbrev pub KeepsLimit : OpenUpload → List ℕ → Type 0
 KeepsLimit upload piece = keeps_limit upload piece ≡ true
 
--- the piece is taken by what was found under the id: an upload is open there, the piece goes on where it ends, and the limit is kept
+-- the piece is taken: an upload was found open under the id, the piece goes on where it ends, and the limit is kept
 abbrev pub IsTaken : Option OpenUpload → Option Span → List ℕ → Type 0
 IsTaken found range piece = IsSomeAnd found (λ upload. GoesOn range upload piece × KeepsLimit upload piece)
 

@@ -1,4 +1,7 @@
-//! The upload sessions of one repository.
+//! The upload sessions of one repository: each call answers by the first case that fits, as a finite map of uploads would.
+//!
+//! `uploads.begin(alloc, moment)` opens an upload and gives its id, `uploads.append(id, None, b"abc")` adds bytes to it and
+//! gives its length.
 #![tactic(auto)]
 
 mod laws;

@@ -53,7 +53,7 @@ impl Upload {
         moment >= self.start && moment - self.start >= delay
     }
 
-    /// Adds a piece behind the bytes, which aren't copied each time, and answers how many there are. After an `Err` the upload is as it was.
+    /// Adds a piece after the bytes, without copying these, and answers how many there are. After an `Err` the upload is as it was.
     pub fn append(&mut self, range: Option<Span>, piece: &[u8]) -> Result<u64, UploadError>
         ensures taken { OnOk result (IsTaken (Some self.old) range piece.now) }
         ensures length { IfOk result (λ n. n ≡ length self.old.bytes + length piece.now) }
@@ -66,7 +66,7 @@ impl Upload {
         Ok(length)
     }
 
-    /// The bytes with the last piece behind them, where the digest is theirs.
+    /// The bytes with the last piece after them, where the digest is theirs.
     pub fn joined(
         &self,
         alloc: Global,
@@ -91,7 +91,7 @@ impl Upload {
         Ok(bytes)
     }
 
-    // How many bytes there are with a piece behind them, where it is taken.
+    // How many bytes there are with a piece after them, where it is taken.
     #[tactic(auto, unfolding(zot_model::specs::Pieces::upload_limit))]
     fn grown(&self, range: Option<Span>, piece: &[u8]) -> Result<u64, UploadError>
         ensures taken { OnOk result (IsTaken (Some self.now) range piece.now) }
@@ -110,7 +110,7 @@ impl Upload {
         Ok(longer)
     }
 
-    // The digest of the bytes with a piece behind them.
+    // The digest of the bytes with a piece after them.
     fn digest_with(&self, piece: &[u8]) -> Digest
         ensures { IsSound result (self.now.bytes ++ piece.now) }
     {
@@ -121,7 +121,7 @@ impl Upload {
     }
 }
 
-// Whether a range, where there is one, begins behind so many bytes and ends where there are so many.
+// Whether a range, where there is one, begins after so many bytes and ends where there are so many.
 fn goes_on(range: Option<Span>, before: u64, after: u64) -> bool
     requires { before ≤ after }
     ensures { result ≡ goes_on range before (after - before) }

@@ -61,7 +61,7 @@ impl UploadMap {
         Ok(())
     }
 
-    /// Adds a piece behind the bytes of an upload, and answers how many there are. After an `Err` the uploads are as they were.
+    /// Adds a piece after the bytes of an upload, and answers how many there are. After an `Err` the uploads are as they were.
     pub fn append(
         &mut self,
         id: UploadId,

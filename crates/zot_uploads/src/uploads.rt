@@ -51,7 +51,7 @@ impl Uploads {
         self.opened == 0 && self.uploads.len() == 0
     }
 
-    /// Opens an upload with no bytes at the moment, in seconds. Its id is the number of uploads opened, this one among them. `Full` comes exactly where 1,000 are open or the last id was given, `NoMemory` only where memory runs out. After an `Err` the table is as it was.
+    /// Opens an upload with no bytes at the moment, in seconds. Its id is the number of uploads opened, this one counted. `Full` comes exactly where 1,000 are open or the last id was given, `NoMemory` only where memory runs out. After an `Err` the table is as it was.
     #[tactic(auto, unfolding(zot_model::specs::Uploads::open_limit, zot_model::specs::Uploads::last_id))]
     pub fn begin(&mut self, alloc: Global, moment: u64) -> Result<UploadId, UploadError>
         ensures room { OnOk result (HasRoom self.old) }
@@ -70,7 +70,7 @@ impl Uploads {
         Ok(id)
     }
 
-    /// Adds a piece behind an upload's bytes, which aren't copied each time, and answers how many there are (OCI Distribution Specification, "Pushing a blob in chunks"). `Unknown`, `Range` with the length and `TooLarge` come exactly where the first of them fits, `NoMemory` only where memory runs out. After an `Err` the table is as it was.
+    /// Adds a piece after an upload's bytes, without copying these, and answers how many there are (OCI Distribution Specification, "Pushing a blob in chunks"). `Unknown`, `Range` with the length and `TooLarge` come exactly where the first of them fits, `NoMemory` only where memory runs out. After an `Err` the table is as it was.
     pub fn append(
         &mut self,
         id: UploadId,

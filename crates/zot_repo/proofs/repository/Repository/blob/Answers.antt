@@ -6,5 +6,5 @@ use Rattle.zot_repo.proofs.repository.Repository.blob.Goals as goal
 
 pub returns : goal.returns
 returns c =
-    c.get.ensures.value ∙ sym (get-entries byte_order c.self.inside.stored.entries c.args.digest.now)
+    c.get.ensures.value ∙ sym (get-entries byte_order c.self.inside.blobs.entries c.args.digest.now)
     ∙ ap (λ (r : RepoState). map.get r.blobs c.args.digest.now) c.self.view_is

@@ -1,6 +1,6 @@
 use Rattle.std.proofs.Common.{inl, inr, refl, sym}
 use Rattle.zot_repo.proofs.ReplyLemmas.{at_call, get_answers, as_unbuilt, head_answers, state_answers, unbuilt}
-use Rattle.zot_repo.proofs.repository.Repository.answer.Goals as goal
+use Rattle.zot_repo.proofs.repository.Repository.reply_to.Goals as goal
 
 pub returns-in-GetBlob : goal.returns-in-GetBlob
 returns-in-GetBlob c =
