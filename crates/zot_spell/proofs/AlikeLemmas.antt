@@ -1,5 +1,5 @@
 -- Replies that are equal up to their spelling are spelled alike.
-use Rattle.std.proofs.Common.{◌≡◌, ℕ, Bool, true, false, List, ◌++◌, length, Option, Some, None, refl, sym, ap, ◌∙◌, arith}
+use Rattle.std.proofs.Common.{◌≡◌, ℕ, Bool, true, false, List, ◌++◌, length, Option, Some, None, [], ◌∷◌, append-nil, append_assoc, refl, sym, ap, ◌∙◌, arith}
 use Rattle.std.specs.Prelude.{codes}
 use Rattle.std.proofs.lemmas.List.{length-append}
 use Rattle.hex.proofs.HexLemmas.{length-encode_with}
@@ -18,7 +18,7 @@ use Rattle.zot_spell.specs.Bodies.{detail_text, error_body, errors_value}
 use Rattle.zot_model.specs.Codes.{code_text, message_text}
 use Rattle.zot_spell.specs.declared.field.Field.{Field}
 use Rattle.zot_spell.specs.Fields.{link_fields, range_text, upload_fields}
-use Rattle.zot_spell.specs.Spelling.{name_in, all_fields, head_of, parts_of, refusal_fields, reply_body, reply_bytes, reply_head, shown_body, spelled}
+use Rattle.zot_spell.specs.Spelling.{name_in, all_fields, held_body, head_of, made_body, parts_of, refusal_fields, reply_body, reply_bytes, reply_head, shown_body, spelled}
 use Rattle.zot_spell.proofs.PlainLemmas.{IsPlain, plain_append, plain_digest, plain_text}
 
 upload_alike : (name : List ℕ) (id size other : ℕ) → AreSizesAlike size other → upload_fields name id size ≡ upload_fields name id other
@@ -123,3 +123,25 @@ alike_bytes request a b head close h = alike (name_in request) a b head close h
 pub head_and_body : (request : Option Request) (reply : Reply) (head close : Bool) → reply_bytes request reply head close ≡ reply_head request reply close ++ shown_body head (reply_body request reply)
 unfolding reply_bytes spelled reply_head reply_body
 head_and_body request reply head close = refl
+
+-- ---- the two bodies of a reply
+
+two_bodies : (name : List ℕ) (reply : Reply) → made_body name reply ++ held_body reply ≡ (parts_of name reply).body
+unfolding made_body held_body parts_of
+two_bodies name replies.Base = append-nil _
+two_bodies name (replies.Tags tags next n) = append-nil _
+two_bodies name (replies.Refused status code detail) = append-nil _
+two_bodies name reply = refl
+
+two_shown : (name : List ℕ) (reply : Reply) (head : Bool) → shown_body head (made_body name reply) ++ shown_body head (held_body reply) ≡ shown_body head (parts_of name reply).body
+unfolding shown_body
+two_shown name reply true = refl
+two_shown name reply false = two_bodies name reply
+
+pub front_and_held : (request : Option Request) (reply : Reply) (head close : Bool) (front : List ℕ) → front ≡ head_of (parts_of (name_in request) reply) close ++ shown_body head (made_body (name_in request) reply)
+    → front ++ shown_body head (held_body reply) ≡ reply_bytes request reply head close
+unfolding reply_bytes spelled
+front_and_held request reply head close front e =
+    let name = name_in request in
+    ap (λ f. f ++ shown_body head (held_body reply)) e ∙ append_assoc (head_of (parts_of name reply) close) (shown_body head (made_body name reply)) (shown_body head (held_body reply))
+    ∙ ap (λ b. head_of (parts_of name reply) close ++ b) (two_shown name reply head)

@@ -73,6 +73,13 @@ made_body name (replies.Tags tags next n) = page_body name tags
 made_body name (replies.Refused status code detail) = error_body code detail
 made_body name _ = []
 
+-- the bytes that a reply holds and that are its body: those of a blob, a manifest or an index
+unfoldable pub held_body : Reply → List ℕ
+held_body (replies.Blob digest bytes) = bytes
+held_body (replies.Manifest digest media bytes) = bytes
+held_body (replies.Referrers text filtered) = text
+held_body _ = []
+
 -- all fields of a reply that says this: its own, those of its body, and one where the connection closes
 unfoldable pub all_fields : Parts → Bool → List Field
 all_fields parts close = parts.own ++ (type_fields parts.media ++ (length_fields parts.status parts.size ++ closing_fields close))

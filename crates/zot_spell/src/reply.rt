@@ -5,7 +5,7 @@ ghost use Rattle.std.specs.Option.{option_copied};
 ghost use Rattle.http.specs.StatusCode.{IsStatusCode};
 ghost use Rattle.zot_names.specs.Name.{is_name_byte};
 ghost use Rattle.zot_spell.specs.Fields.{digest_field, location_field, manifest_place, subject_fields};
-ghost use Rattle.zot_spell.specs.Spelling.{HasStatus, IsReply, MayHave, byte_media, head_of, head_text, json_media, made_body, name_in, parts_of, refusal_fields, reply_bytes, reply_head, shown_body};
+ghost use Rattle.zot_spell.specs.Spelling.{HasStatus, IsReply, MayHave, byte_media, head_of, head_text, held_body, json_media, made_body, name_in, parts_of, refusal_fields, reply_bytes, reply_head, shown_body};
 
 use crate::bodies::{error_body, page_body};
 use crate::cutting::after;
@@ -22,7 +22,6 @@ use zot_media::Media;
 use zot_model::{Detail, Reply, Request};
 
 /// The bytes of a reply to a request, or to a message that asks for nothing (RFC 9112, sections 4 to 6). `head` says that the method is HEAD, whose reply has the fields of a GET's and no body, and `close` that the connection closes after the reply. It fails only where memory does.
-#[tactic(auto, unfolding(crate::specs::Spelling::reply_bytes, crate::specs::Spelling::spelled))]
 pub fn spell_reply(
     alloc: Global,
     request: Option<&Request>,
@@ -34,12 +33,44 @@ pub fn spell_reply(
     ensures { IfOk result (λ bytes. bytes.items
         ≡ reply_bytes (option_copied request.entry) reply.now head close) }
 {
+    let mut out = spell_front(alloc, request, reply, head, close)?;
+    out.extend_from_slice(held_body(head, reply))?;
+    Ok(out)
+}
+
+/// The bytes of a reply up to those of `held_body`: its head, and a body of JSON, which is made of the reply. The bytes of a blob, a manifest or an index, which the reply holds, needn't be copied to be written after them. It fails only where memory does.
+#[tactic(auto, using(crate::proofs::AlikeLemmas::front_and_held))]
+pub fn spell_front(
+    alloc: Global,
+    request: Option<&Request>,
+    reply: &Reply,
+    head: bool,
+    close: bool,
+) -> Result<Vec<u8>, AllocError>
+    requires { MayHave (option_copied request) reply.now }
+    ensures { IfOk result (λ front. front.items ++ shown_body head (held_body reply.now)
+        ≡ reply_bytes (option_copied request.entry) reply.now head close) }
+{
     let name = name_of(request);
     let made = made_body(alloc, name, reply)?;
     let body = body_in(name, reply, made.as_str());
     let mut out = head_of(alloc, name, reply, body.len() as u64, close)?;
-    out.extend_from_slice(shown_in(head, body))?;
+    out.extend_from_slice(shown_in(head, made.as_bytes()))?;
     Ok(out)
+}
+
+/// The bytes that a reply holds and that are its body: those of a blob, a manifest or an index, or none; and none where the method is HEAD. Takes no memory.
+#[tactic(auto, unfolding(crate::specs::Spelling::held_body))]
+pub fn held_body(head: bool, reply: &Reply) -> &[u8]
+    ensures { result.now ≡ shown_body head (held_body reply.now) }
+{
+    match reply {
+        Reply::Blob { bytes, .. } | Reply::Manifest { bytes, .. } => {
+            shown_in(head, bytes.as_slice())
+        }
+        Reply::Referrers { text, .. } => shown_in(head, text.as_slice()),
+        _ => shown_in(head, b"".as_slice()),
+    }
 }
 
 /// The head of a reply: its status line, its fields and the empty line after them. The bytes of a reply are its head and then its body, which a reply to HEAD leaves out, so a blob's bytes needn't be copied. It fails only where memory does.
@@ -118,7 +149,7 @@ fn head_of(
     requires size { count ≡ length (parts_of name.now reply.now).body }
     ensures { IfOk result (λ bytes. bytes.items ≡ head_of (parts_of name.now reply.now) close) }
 {
-    let status = status_of(name, reply);
+    let status = reply_status(name, reply);
     let mut fields = own_fields(alloc, name, reply)?;
     add_type(alloc, &mut fields, media_of(name, reply))?;
     add_size(alloc, &mut fields, status, size_of(name, reply, count))?;
@@ -140,7 +171,7 @@ pub fn join_head(alloc: Global, status: u16, fields: &[Field]) -> Result<Vec<u8>
 
 // The status of a reply; it is the same on every repository.
 #[tactic(auto, unfolding(crate::specs::Spelling::parts_of))]
-fn status_of(_name: &str, reply: &Reply) -> u16
+fn reply_status(_name: &str, reply: &Reply) -> u16
     ensures { result ≡ (parts_of _name.now reply.now).status }
 {
     match reply {
