@@ -1,20 +1,20 @@
 -- No other replies to a request share a spelling.
-use Rattle.std.proofs.Common.{◌≡◌, ◌⊎◌, inl, inr, ℕ, ◌<◌, ◌≤◌, Bool, false, List, [], ◌++◌, Option, Some, None, refl, sym, subst, ◌∙◌, arith}
+use Rattle.std.proofs.Common.{◌≡◌, ◌⊎◌, inl, inr, ℕ, ◌<◌, ◌≤◌, Bool, false, List, [], Some, None, refl, sym, arith}
 use Rattle.zot_model.specs.Calls.{is_head}
 use Rattle.zot_model.specs.declared.call.Call.{Call}
 use Rattle.zot_model.specs.declared.call.Call.TheVariants as calls
-use Rattle.zot_model.specs.declared.mount.Mount.{Mount}
 use Rattle.zot_model.specs.declared.reply.Reply.{Reply}
 use Rattle.zot_model.specs.declared.reply.Reply.TheVariants as replies
 use Rattle.zot_model.specs.declared.request.Request.{Request}
-use Rattle.zot_model.specs.Fits.{Fits, FitsCall, IsBegun, IsRefusalOf, IsSuccessOf}
+use Rattle.zot_model.specs.Fits.{Fits, FitsCall, IsRefusalOf, IsSuccessOf}
 use Rattle.zot_model.specs.Values.{IsReal}
 use Rattle.zot_spell.specs.Alike.{AreAlike}
 use Rattle.zot_spell.specs.Spelling.{name_in, parts_of, reply_bytes}
 use Rattle.zot_spell.proofs.FitLemmas.{not_success, session_status}
 use Rattle.zot_reply.proofs.CodeLemmas.{high_status}
-use Rattle.zot_reply.proofs.SameLemmas.{AreSpelledAlike, blobs_alike, heads_alike, indexes_alike, made_alike, manifest_heads_alike, manifests_alike, manifests_made_alike, pages_alike, sessions_alike, status_in, told_alike}
+use Rattle.zot_reply.proofs.SameLemmas.{AreSpelledAlike, blobs_alike, heads_alike, indexes_alike, made_alike, manifest_heads_alike, manifests_alike, manifests_made_alike, pages_alike, sessions_alike, status_in, status_alike}
 use Rattle.zot_reply.proofs.SameRefusals.{refusals_alike}
+use Rattle.zot_reply.proofs.ValueLemmas.{posting_of}
 use Rattle.zot_reply.specs.Reading.{IsPosting}
 
 low_session : (status : ℕ) → (status ≡ 202) ⊎ (status ≡ 204) → status < 300
@@ -39,7 +39,7 @@ apart : (name : List ℕ) (call : Call) (a b : Reply) (head c k : Bool) → IsSu
 apart name call a b head c k h g e =
     let low = success_low name call a h in
     let high = refusal_high name call b g in
-    let same = told_alike name a b head c k (omega (arith, low)) high.1 e in
+    let same = status_alike name a b head c k (omega (arith, low)) high.1 e in
     omega (arith, low, high.0, same)
 
 -- ---- successes
@@ -47,7 +47,7 @@ apart name call a b head c k h g e =
 taken_apart : (name d : List ℕ) (id size status : ℕ) (head c k : Bool) → status ≡ 202 → AreSpelledAlike name head c k (replies.BlobMade d) (replies.Session id size status) → ⊥
 unfolding parts_of
 taken_apart name d id size status head c k h e =
-    let same : 201 ≡ status = told_alike name (replies.BlobMade d) (replies.Session id size status) head c k (omega arith) (omega (arith, h)) e in
+    let same : 201 ≡ status = status_alike name (replies.BlobMade d) (replies.Session id size status) head c k (omega arith) (omega (arith, h)) e in
     omega (arith, h, same)
 
 taken_alike : (name : List ℕ) (a b : Reply) (c k : Bool) → IsPosting a → IsPosting b → IsReal a → IsReal b → AreSpelledAlike name false c k a b → AreAlike false a b
@@ -58,12 +58,6 @@ taken_alike name (replies.Session i n s) (replies.Session j m t) c k h g x y e =
 taken_alike name (replies.BlobMade d) b c k h g x y e = absurd g
 taken_alike name (replies.Session i n s) b c k h g x y e = absurd g
 taken_alike name a b c k h g x y e = absurd h
-
--- a POST is answered so
-pub posting_of : (mount : Option Mount) (reply : Reply) → IsBegun mount reply → IsPosting reply
-posting_of mount (replies.BlobMade digest) h = tt
-posting_of mount (replies.Session id size status) h = h
-posting_of mount reply h = absurd h
 
 base_alike : (a b : Reply) → IsSuccessOf calls.Base a → IsSuccessOf calls.Base b → AreAlike false a b
 base_alike replies.Base replies.Base h g = refl

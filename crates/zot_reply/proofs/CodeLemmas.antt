@@ -1,5 +1,5 @@
--- Which refusal a status and the size of its body tell.
-use Rattle.std.proofs.Common.{◌≡◌, ◌≢◌, ℕ, zero, suc, ◌+◌, ◌*◌, ◌<◌, ◌≤◌, ◌^◌, ◌==◌, Bool, true, not, ◌&&◌, if◌then◌else◌, inl, inr, List, [], ◌∷◌, length, replicate, Some, None, refl, sym, ap, ◌∙◌, arith, slice_index, lit<}
+-- Which refusal it is, by its status and the size of its body.
+use Rattle.std.proofs.Common.{◌≡◌, ◌≢◌, ℕ, zero, suc, ◌+◌, ◌*◌, ◌<◌, ◌≤◌, ◌^◌, ◌==◌, Bool, true, not, ◌&&◌, inl, inr, List, [], ◌∷◌, length, replicate, Some, None, refl, sym, ap, ◌∙◌, arith, slice_index, lit<}
 use Rattle.std.proofs.lemmas.Bool.{and_parts}
 use Rattle.std.proofs.lemmas.Bool.Decides.{nat_tests}
 use Rattle.hex.specs.Hex.{encode_with}
@@ -8,7 +8,7 @@ use Rattle.zot_digest.specs.Digest.{IsDigest, digest_text}
 use Rattle.zot_model.specs.declared.call.Call.{Call}
 use Rattle.zot_model.specs.declared.call.Call.TheVariants as calls
 use Rattle.zot_model.specs.declared.code.Code.{Code}
-use Rattle.zot_model.specs.declared.code.Code.TheVariants.{BlobUnknown, BlobUploadInvalid, BlobUploadUnknown, DigestInvalid, HeadInvalid, HeadTooLong, HopRefused, ManifestBlobUnknown, ManifestInvalid, ManifestUnknown, NameInvalid, NameUnknown, NoMemory, NotBuilt, PeerFault, SizeInvalid, StorageFault, TooManyRequests, Unsupported, UpstreamFault, UpstreamIncomplete, UpstreamInvalid, UpstreamMismatch, UpstreamTooLarge}
+use Rattle.zot_model.specs.declared.code.Code.TheVariants.{BlobUnknown, BlobUploadInvalid, ManifestBlobUnknown, Unsupported, UpstreamIncomplete, UpstreamInvalid, UpstreamMismatch}
 use Rattle.zot_model.specs.declared.detail.Detail.{Detail}
 use Rattle.zot_model.specs.declared.detail.Detail.TheVariants as details
 use Rattle.zot_model.specs.declared.methods.Methods.TheVariants as methods
@@ -120,7 +120,7 @@ pub high_status : (code : Code) → (400 ≤ status_of code) × (status_of code 
 high_status BlobUnknown = (omega arith, omega arith)
 high_status code = (omega arith, omega arith)
 
--- the range that doesn't go on is told alone with its status
+-- a range that doesn't go on is refused alone with its status
 pub range_status : (code : Code) → status_of code ≡ 416 → code ≡ BlobUploadInvalid
 range_status BlobUploadInvalid e = refl
 range_status code e = absurd (omega (arith, e))

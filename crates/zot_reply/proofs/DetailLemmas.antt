@@ -1,7 +1,7 @@
 -- What the bodies of refusals with a detail are.
-use Rattle.std.proofs.Common.{◌≡◌, ◌≢◌, ℕ, Bool, true, false, List, [], ◌∷◌, ◌++◌, length, Some, refl, ap, ap₂, ◌∙◌}
+use Rattle.std.proofs.Common.{◌≡◌, ◌≢◌, ℕ, Bool, true, false, List, [], ◌∷◌, ◌++◌, length, Some, refl, sym, ap, ap₂, subst, ◌∙◌, arith}
 use Rattle.std.specs.Prelude.{codes}
-use Rattle.std.proofs.lemmas.List.{append_assoc}
+use Rattle.std.proofs.lemmas.List.{append_assoc, length-append}
 use Rattle.json.specs.Print.{escape, escape_byte}
 use Rattle.serde_json.specs.Written.{compact_text}
 use Rattle.zot_digest.specs.Digest.{IsDigest, digest_text}
@@ -10,16 +10,23 @@ use Rattle.zot_model.specs.declared.code.Code.TheVariants.{BlobUploadInvalid, Ma
 use Rattle.zot_model.specs.declared.detail.Detail.{Detail}
 use Rattle.zot_model.specs.declared.detail.Detail.TheVariants as details
 use Rattle.zot_model.specs.Codes.{HasDetail, SaysDiffer, SaysMissing, SaysNothing, SaysSession, code_text, message_text}
-use Rattle.zot_model.specs.Values.{IsRealDetail}
-use Rattle.zot_spell.specs.Alike.{AreUnseenAlike, IsDetail}
+use Rattle.zot_model.specs.Refusals.{refusal_with}
+use Rattle.zot_model.specs.Values.{IsRealDetail, IsWord}
+use Rattle.zot_names.specs.Upload.{upload_text}
+use Rattle.zot_spell.specs.Alike.{AreDetailsAlike, AreSizesAlike, AreUnseenAlike, IsDetail}
 use Rattle.zot_spell.specs.Bodies.{detail_text, error_body, errors_value}
-use Rattle.zot_reply.specs.Details.{TellsMissing, detail_front}
-use Rattle.zot_spell.proofs.AlikeLemmas.{differ_plain}
+use Rattle.zot_spell.specs.declared.field_name.FieldName.TheVariants as names
+use Rattle.zot_spell.specs.Fields.{range_text}
+use Rattle.zot_spell.specs.Spelling.{parts_of, shown_body}
+use Rattle.zot_spell.proofs.AlikeLemmas.{differ_plain, digest_length}
 use Rattle.zot_spell.proofs.PlainLemmas.{IsPlain, plain_digest, plain_text}
+use Rattle.zot_reply.specs.Details.{FindsDigest, TellsMissing, detail_front}
+use Rattle.zot_reply.specs.Reading.{Finds, Has, IsSeen, Seen}
+use Rattle.zot_reply.proofs.ValueLemmas.{refusal_says}
 
 -- ---- the text of a detail in its body
 
--- what stands behind it
+-- what stands after it
 abbrev pub detail_back : Code → List ℕ
 detail_back code = codes "\",\"message\":\"" ++ (escape (message_text code) ++ codes "\"}]}")
 
@@ -72,6 +79,10 @@ pub differ_place : (wanted found : List ℕ) → IsDigest wanted → IsDigest fo
     ≡ detail_front UpstreamMismatch ++ (codes "expected " ++ (digest_text wanted ++ (codes " found " ++ (digest_text found ++ detail_back UpstreamMismatch))))
 differ_place wanted found w f = differ_whole wanted found w f ∙ differ_assoc (detail_front UpstreamMismatch) (codes "expected ") (digest_text wanted) (codes " found ") (digest_text found) (detail_back UpstreamMismatch)
 
+-- up to the digest that was found, and from it on
+found_place : (w f : List ℕ) → codes "expected " ++ (digest_text w ++ (codes " found " ++ (digest_text f ++ detail_back UpstreamMismatch))) ≡ (codes "expected " ++ (digest_text w ++ codes " found ")) ++ (digest_text f ++ detail_back UpstreamMismatch)
+found_place w f = simp append_assoc
+
 -- ---- details that aren't shown
 
 nothing_alike : (detail said : Detail) → SaysNothing detail → SaysNothing said → AreUnseenAlike detail said
@@ -113,3 +124,36 @@ not_session code detail other h s = absurd s
 pub front_pieces : (code : Code) (rest : List ℕ) → detail_front code ++ rest ≡ codes "{\"errors\":[{\"code\":\"" ++ (code_text code ++ (codes "\",\"detail\":\"" ++ rest))
 unfolding detail_front
 front_pieces code rest = simp append_assoc
+
+-- ---- the detail that is found in a body
+
+session_alike : (head : Bool) (i j n m : ℕ) → i ≡ j → AreSizesAlike n m → AreDetailsAlike head (details.Session i n) (details.Session j m)
+session_alike true i j n m e s = (e, s)
+session_alike false i j n m e s = (e, s)
+
+pub session_found : (name : List ℕ) (head : Bool) (seen : Seen) (id size : ℕ) → Finds IsWord upload_text seen names.UploadId id → ((n : ℕ) → IsWord n → Has seen names.Range (range_text n) → AreSizesAlike n size)
+    → (detail : Detail) → IsRealDetail detail → SaysSession detail → IsSeen name head (refusal_with BlobUploadInvalid detail) seen → AreDetailsAlike head detail (details.Session id size)
+session_found name head seen id size finds long (details.Session i n) real says (close, is) =
+    let h = refusal_says name 416 BlobUploadInvalid i n head close in
+    let there : Has seen names.UploadId (upload_text i) × Has seen names.Range (range_text n) = subst (λ (s : Seen). Has s names.UploadId (upload_text i) × Has s names.Range (range_text n)) (sym is) h in
+    session_alike head i id n size (finds i real.0 there.0) (long n real.1 there.1)
+session_found name head seen id size finds long detail real says is = absurd says
+
+pub missing_found : (name : List ℕ) (head : Bool) (seen : Seen) (code : Code) (found : List ℕ) → TellsMissing code → FindsDigest code seen.body 0 found
+    → (detail : Detail) → IsRealDetail detail → SaysMissing detail → IsSeen name head (refusal_with code detail) seen → AreDetailsAlike head detail (details.Missing found)
+unfolding parts_of shown_body
+missing_found name true seen code found tells finds (details.Missing digest) real says is = tt
+missing_found name false seen code found tells finds (details.Missing digest) real says (close, is) =
+    ap details.Missing (finds [] digest (detail_back code) refl real (ap (λ (s : Seen). s.body) is ∙ missing_place code digest tells real))
+missing_found name head seen code found tells finds detail real says is = absurd says
+
+pub differ_found : (name : List ℕ) (head : Bool) (seen : Seen) (wanted found : List ℕ) → FindsDigest UpstreamMismatch seen.body 9 wanted → FindsDigest UpstreamMismatch seen.body 87 found
+    → (detail : Detail) → IsRealDetail detail → SaysDiffer detail → IsSeen name head (refusal_with UpstreamMismatch detail) seen → AreDetailsAlike head detail (details.Differ wanted found)
+unfolding parts_of shown_body
+differ_found name true seen wanted found first second (details.Differ w f) real says is = tt
+differ_found name false seen wanted found first second (details.Differ w f) real says (close, is) =
+    let body = ap (λ (s : Seen). s.body) is ∙ differ_place w f real.0 real.1 in
+    let long : length (codes "expected " ++ (digest_text w ++ codes " found ")) ≡ 87 = simp length-append (omega (arith, digest_length w real.0)) in
+    ap₂ details.Differ (first (codes "expected ") w (codes " found " ++ (digest_text f ++ detail_back UpstreamMismatch)) refl real.0 body)
+    (second (codes "expected " ++ (digest_text w ++ codes " found ")) f (detail_back UpstreamMismatch) long real.1 (body ∙ ap (λ (t : List ℕ). detail_front UpstreamMismatch ++ t) (found_place w f)))
+differ_found name head seen wanted found first second detail real says is = absurd says

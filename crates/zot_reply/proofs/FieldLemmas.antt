@@ -1,7 +1,7 @@
--- The fields of replies are fields that a head may have, and are told by the lines.
-use Rattle.std.proofs.Common.{◌≡◌, ℕ, zero, suc, ◌<◌, ◌/◌, ◌%◌, ◌==◌, Bool, true, false, not, ◌&&◌, if◌then◌else◌, inl, inr, List, [], ◌∷◌, ◌++◌, length, drop, Option, Some, None, refl, sym, ap, ap₂, ◌∙◌, arith, slice_index}
+-- The fields of replies are fields that a head may have, and the lines say which they are.
+use Rattle.std.proofs.Common.{◌≡◌, ℕ, ◌/◌, ◌%◌, ◌==◌, Bool, true, false, not, ◌&&◌, if◌then◌else◌, inl, inr, List, [], ◌∷◌, ◌++◌, drop, Option, Some, None, refl, sym, ap, ap₂, ◌∙◌, arith, slice_index}
 use Rattle.std.specs.Fmt.{decimal}
-use Rattle.std.specs.List.{AllByRecursion, AllPass}
+use Rattle.std.specs.List.{AllPass}
 use Rattle.std.specs.Prelude.{IfSome, codes}
 use Rattle.std.proofs.lemmas.Bool.{and_parts, cases_lt}
 use Rattle.std.proofs.lemmas.Bool.Decides.{nat_tests}
@@ -25,7 +25,7 @@ use Rattle.zot_spell.specs.declared.field_name.FieldName.{FieldName}
 use Rattle.zot_spell.specs.declared.field_name.FieldName.TheVariants as names
 use Rattle.zot_spell.specs.Fields.{allow_field, closing_fields, filter_fields, length_fields, link_fields, link_text, methods_text, page_place, range_text, subject_fields, upload_fields, version_field}
 use Rattle.zot_spell.specs.Fields.{blob_place, manifest_place, upload_place}
-use Rattle.zot_spell.specs.Heads.{AreFields, IsField, IsFree, field_line, field_of, fields_text, length_field_of, name_text, type_fields}
+use Rattle.zot_spell.specs.Heads.{AreFields, IsField, IsFree, field_of, fields_text, length_field_of, name_text, type_fields}
 use Rattle.zot_spell.specs.Spelling.{all_fields, byte_media, json_media, parts_of, refusal_fields}
 use Rattle.zot_spell.proofs.CutLemmas.{cut_front, free_append, free_cons, same_ended}
 use Rattle.zot_spell.proofs.SplitLemmas.{line_at, line_first, line_free}

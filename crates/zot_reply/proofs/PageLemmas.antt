@@ -1,12 +1,12 @@
 -- What the bodies and the links of pages of tags are.
-use Rattle.std.proofs.Common.{◌≡◌, ◌≢◌, ℕ, zero, suc, ◌-◌, ◌+◌, ◌<◌, ◌≤◌, ◌==◌, Bool, true, false, inl, inr, List, [], ◌∷◌, ◌++◌, length, map, refl, sym, ap, ap₂, ◌∙◌, arith, slice_index, append-nil}
-use Rattle.std.specs.Prelude.{IsUtf8, codes}
+use Rattle.std.proofs.Common.{◌≡◌, ◌≢◌, ℕ, zero, suc, ◌<◌, ◌≤◌, ◌==◌, Bool, true, false, inl, inr, List, [], ◌∷◌, ◌++◌, length, map, refl, sym, ap, ap₂, ◌∙◌, arith, slice_index, append-nil}
+use Rattle.std.specs.Prelude.{Err, IfOk, IsUtf8, Ok, Option, Result, Some, codes}
 use Rattle.std.specs.Borrow.{Bor}
 use Rattle.std.specs.Fmt.{decimal}
-use Rattle.std.specs.List.{AllByRecursion}
+use Rattle.std.specs.List.{AllByRecursion, AllPass}
 use Rattle.std.proofs.lemmas.Bool.{cases_lt}
 use Rattle.std.proofs.lemmas.Bool.Decides.{nat_tests}
-use Rattle.std.proofs.lemmas.List.{append_assoc, get_or_past, length-append}
+use Rattle.std.proofs.lemmas.List.{append_assoc, get_or_past}
 use Rattle.std.proofs.lemmas.Str.{IsUtf8-from_ascii}
 use Rattle.json.specs.Print.{escape, escape_byte, quoted}
 use Rattle.serde_json.specs.Data.{string}
@@ -14,7 +14,8 @@ use Rattle.serde_json.specs.View.{items_of}
 use Rattle.serde_json.specs.Written.{comma_if, items_text}
 use Rattle.zot_names.proofs.ByteLemmas.{tag_bytes}
 use Rattle.zot_names.specs.Tag.{IsTag, is_tag_byte}
-use Rattle.zot_reply.specs.Pages.{tags_text}
+use Rattle.zot_names.specs.Name.{is_name_byte}
+use Rattle.zot_reply.specs.Pages.{link_rest, tags_text}
 use Rattle.zot_spell.specs.Bodies.{page_body, page_value}
 use Rattle.zot_spell.specs.Fields.{link_text, page_place}
 use Rattle.zot_spell.specs.Heads.{IsFree}
@@ -70,6 +71,12 @@ plain_all (c ∷ text) h = (h 0 (omega arith), plain_all text (λ k lt. h (suc k
 tag_plain : (tag : List ℕ) → IsTag tag → IsPlain tag
 tag_plain tag is = plain_all tag (λ k lt. plain_tag_byte (slice_index tag k) (tag_bytes tag is k 0 lt))
 
+name_plain_byte : (c : ℕ) → is_name_byte c ≡ true → IsPlainByte c
+name_plain_byte c h = plain_byte c (grind (arith, nat_tests)) (λ e. absurd (grind (arith, nat_tests))) (λ e. absurd (grind (arith, nat_tests)))
+
+name_plain : (name : List ℕ) → AllPass is_name_byte name → IsPlain name
+name_plain name all = plain_all name (λ k lt. name_plain_byte (slice_index name k) (all k 0 lt))
+
 -- ---- the tags of a page
 
 pub comma_free : (later : Bool) → IsFree 34 (comma_if later)
@@ -99,9 +106,12 @@ page_is name tags all =
     ap (λ (t : List ℕ). codes "{\"name\":" ++ (quoted name ++ (codes ",\"tags\":[" ++ t))) (tags_place tags all false)
     ∙ front_assoc (codes "{\"name\":") (quoted name) (codes ",\"tags\":[") (tags_text false tags)
 
--- how long the front is, by the page without tags
-pub front_long : (name : List ℕ) → length (page_front name) ≡ length (page_body name []) - 2
-front_long name = let e = ap length (page_is name [] tt) in omega (arith, e, length-append (page_front name) (tags_text false []))
+-- the front of a page of a repository whose name is plain
+pub plain_front : (name : List ℕ) → IsPlain name → page_front name ≡ codes "{\"name\":\"" ++ (name ++ codes "\",\"tags\":[")
+plain_front name plain = ap (λ (t : List ℕ). codes "{\"name\":" ++ ((34 ∷ (t ++ (34 ∷ []))) ++ codes ",\"tags\":[")) (plain_text name plain) ∙ simp append_assoc
+
+pub page_pieces : (name : List ℕ) (tags : List (List ℕ)) → AllPass is_name_byte name → AllByRecursion IsTag tags → page_body name tags ≡ codes "{\"name\":\"" ++ (name ++ (codes "\",\"tags\":[" ++ tags_text false tags))
+page_pieces name tags named all = page_is name tags all ∙ ap (λ (f : List ℕ). f ++ tags_text false tags) (plain_front name (name_plain name named)) ∙ simp append_assoc
 
 pub same_tags : (later : Bool) (a b : List (List ℕ)) → AllByRecursion IsTag a → AllByRecursion IsTag b → tags_text later a ≡ tags_text later b → a ≡ b
 same_tags later [] [] x y e = refl
@@ -144,12 +154,9 @@ IsFirst t ts first = (first.0 ≡ t) × (first.1.now ≡ tags_text true ts)
 
 -- ---- links
 
--- a link up to its number, and from it on
+-- a link up to its number
 abbrev pub link_front : List ℕ → List ℕ
 link_front name = codes "<" ++ (codes "/v2/" ++ name ++ codes "/tags/list?n=")
-
-abbrev pub link_rest : ℕ → List ℕ → List ℕ
-link_rest n tag = decimal n ++ (38 ∷ (codes "last" ++ (61 ∷ (tag ++ (62 ∷ codes "; rel=\"next\"")))))
 
 link_assoc : (a v n t d m g b : List ℕ) → a ++ (v ++ n ++ t ++ d ++ m ++ g) ++ b ≡ (a ++ (v ++ n ++ t)) ++ (d ++ (m ++ (g ++ b)))
 link_assoc a v n t d m g b = simp append_assoc
@@ -160,3 +167,9 @@ link_is name n tag = link_assoc (codes "<") (codes "/v2/") name (codes "/tags/li
 
 pub link_pieces : (name : List ℕ) (n : ℕ) (tag : List ℕ) → link_text name n tag ≡ codes "</v2/" ++ (name ++ (codes "/tags/list?n=" ++ link_rest n tag))
 link_pieces name n tag = link_is name n tag ∙ simp append_assoc
+
+-- the tag of a link, where it is found at its place
+pub linked_tag : {E : Type 0} (result : Result (Option (List ℕ)) E) (name link text : List ℕ) → ((n : ℕ) (tag : List ℕ) → IsTag tag → link ≡ link_text name n tag → text ≡ tag)
+    → IfOk result (λ found. (tag : List ℕ) → IsTag tag → text ≡ tag → found ≡ Some tag) → IfOk result (λ found. (n : ℕ) (tag : List ℕ) → IsTag tag → link ≡ link_text name n tag → found ≡ Some tag)
+linked_tag (Ok found) name link text at read = λ n tag is e. read tag is (at n tag is e)
+linked_tag (Err e) name link text at read = tt

@@ -1,9 +1,8 @@
 -- Replies of one kind that have the same bytes.
-use Rattle.std.proofs.Common.{◌≡◌, ℕ, ◌-◌, ◌<◌, ◌^◌, ◌==◌, Bool, true, false, List, [], ◌∷◌, ◌++◌, length, take, drop, Option, Some, None, refl, sym, ap, ap₂, subst, ◌∙◌, ◌⊎◌, inl, inr, arith, slice_index}
-use Rattle.std.specs.Prelude.{IfSome, codes, option_and_then, option_map, is_some}
+use Rattle.std.proofs.Common.{◌≡◌, ℕ, ◌-◌, ◌<◌, ◌^◌, Bool, true, false, List, [], ◌∷◌, ◌++◌, length, take, drop, Option, Some, None, refl, sym, ap, ap₂, ◌∙◌, arith, slice_index}
+use Rattle.std.specs.Prelude.{IfSome, codes, option_map, is_some}
 use Rattle.std.specs.Fmt.{decimal}
 use Rattle.std.specs.Int.{w64, from_be_bytes, to_be_bytes}
-use Rattle.std.specs.List.{AllByRecursion}
 use Rattle.std.proofs.lemmas.Fmt.{decimal_injective}
 use Rattle.std.proofs.lemmas.List.{append_assoc}
 use Rattle.std.proofs.lemmas.Nat.{from_be_bytes-to_be_bytes_8}
@@ -15,7 +14,7 @@ use Rattle.zot_media.specs.declared.media.Media.{Media}
 use Rattle.zot_media.specs.Media.{media_named, media_text}
 use Rattle.zot_model.specs.declared.reply.Reply.{Reply}
 use Rattle.zot_model.specs.declared.reply.Reply.TheVariants as replies
-use Rattle.zot_model.specs.Fits.{IsBlob, IsBlobHead, IsBlobMade, IsDeleted, IsManifest, IsManifestHead, IsManifestMade, IsPage, IsReferrers, IsSession}
+use Rattle.zot_model.specs.Fits.{IsBlob, IsBlobHead, IsBlobMade, IsManifest, IsManifestHead, IsManifestMade, IsPage, IsReferrers, IsSession}
 use Rattle.zot_model.specs.Values.{IsReal}
 use Rattle.zot_names.proofs.UploadLemmas.{decode_sized-upload_text}
 use Rattle.zot_names.specs.Tag.{IsTag}
@@ -30,9 +29,10 @@ use Rattle.zot_spell.specs.Spelling.{all_fields, head_of, head_text, json_media,
 use Rattle.zot_spell.proofs.CutLemmas.{cut_front, free_append, free_cons, same_ended}
 use Rattle.zot_spell.proofs.SplitLemmas.{digits_at, same_digits}
 use Rattle.zot_reply.proofs.FieldLemmas.{all_are, digest_free, free_by_test, free_nil, json_free, number_free, rest_are, same_fields, same_placed, upload_free}
-use Rattle.zot_reply.proofs.PageLemmas.{link_front, link_is, link_rest, same_pages, tag_free_of_cr, tag_free_of_end}
+use Rattle.zot_reply.proofs.PageLemmas.{link_front, link_is, same_pages, tag_free_of_cr, tag_free_of_end}
 use Rattle.zot_reply.proofs.ReadingLemmas.{decimal_free}
-use Rattle.zot_reply.proofs.ToldLemmas.{digest_of_blob, digest_of_head, digest_of_manifest, digest_of_manifest_head, fields_of, filter_of_index, media_of_manifest, media_of_manifest_head, range_of_upload, size_of_head, size_of_manifest_head, subject_of_manifest_made}
+use Rattle.zot_reply.specs.Pages.{link_rest}
+use Rattle.zot_reply.proofs.ValueLemmas.{fields_of, says}
 
 -- replies with the same bytes, on the repository of the name
 abbrev pub AreSpelledAlike : List ℕ → Bool → Bool → Bool → Reply → Reply → Type 0
@@ -46,8 +46,8 @@ some_back a x h = cc h
 pub same_digest : (d f : List ℕ) → IsDigest d → IsDigest f → digest_text d ≡ digest_text f → d ≡ f
 same_digest d f x y e = some_back d f (sym (digest_named-digest_text d x) ∙ ap digest_named e ∙ digest_named-digest_text f y)
 
-same_told : (d f : List ℕ) → IsDigest d → IsDigest f → Some (digest_text d) ≡ Some (digest_text f) → d ≡ f
-same_told d f x y e = same_digest d f x y (some_back (digest_text d) (digest_text f) e)
+same_digests : (d f : List ℕ) → IsDigest d → IsDigest f → Some (digest_text d) ≡ Some (digest_text f) → d ≡ f
+same_digests d f x y e = same_digest d f x y (some_back (digest_text d) (digest_text f) e)
 
 same_size : (n m : ℕ) → n < 2 ^ 64 → m < 2 ^ 64 → Some (decimal n) ≡ Some (decimal m) → n ≡ m
 same_size n m x y e = decimal_injective n m x y (some_back (decimal n) (decimal m) e)
@@ -82,8 +82,8 @@ pub bytes_are : (name : List ℕ) (reply : Reply) (head close : Bool) → spelle
 unfolding spelled head_of head_text
 bytes_are name reply head close = append_assoc (status_line (status_in name reply)) (fields_text (fields_of name reply close)) (shown_body head (parts_of name reply).body)
 
-pub told_alike : (name : List ℕ) (a b : Reply) (head c k : Bool) → status_in name a < 1000 → status_in name b < 1000 → AreSpelledAlike name head c k a b → status_in name a ≡ status_in name b
-told_alike name a b head c k x y e =
+pub status_alike : (name : List ℕ) (a b : Reply) (head c k : Bool) → status_in name a < 1000 → status_in name b < 1000 → AreSpelledAlike name head c k a b → status_in name a ≡ status_in name b
+status_alike name a b head c k x y e =
     same_status (status_in name a) (status_in name b) (after_status name a head c) (after_status name b head k) x y (sym (bytes_are name a head c) ∙ e ∙ bytes_are name b head k)
 
 pub lines_alike : (name : List ℕ) (a b : Reply) (head c k : Bool) → status_in name a ≡ status_in name b → AreSpelledAlike name head c k a b → after_status name a head c ≡ after_status name b head k
@@ -102,7 +102,7 @@ pub blobs_alike : (name : List ℕ) (a b : Reply) (c k : Bool) → IsBlob a → 
 unfolding parts_of shown_body
 blobs_alike name (replies.Blob d v) (replies.Blob f w) c k i j x y e =
     let s = fields_alike name (replies.Blob d v) (replies.Blob f w) false c k (all_are [] (replies.Blob d v) c (free_nil 13) x) (all_are [] (replies.Blob f w) k (free_nil 13) y) refl e in
-    ap₂ replies.Blob (same_told d f x y (sym (digest_of_blob name d v c) ∙ ap (value_in (name_text names.ContentDigest)) s.0 ∙ digest_of_blob name f w k)) s.1
+    ap₂ replies.Blob (same_digests d f x y (sym ((says name (replies.Blob d v) false c).0) ∙ ap (value_in (name_text names.ContentDigest)) s.0 ∙ (says name (replies.Blob f w) false k).0)) s.1
 blobs_alike name (replies.Blob d v) b c k i j x y e = absurd j
 blobs_alike name a b c k i j x y e = absurd i
 
@@ -110,8 +110,8 @@ pub heads_alike : (name : List ℕ) (a b : Reply) (c k : Bool) → IsBlobHead a 
 unfolding parts_of
 heads_alike name (replies.BlobHead d n) (replies.BlobHead f m) c k i j x y e =
     let s = fields_alike name (replies.BlobHead d n) (replies.BlobHead f m) true c k (all_are [] (replies.BlobHead d n) c (free_nil 13) x) (all_are [] (replies.BlobHead f m) k (free_nil 13) y) refl e in
-    ap₂ replies.BlobHead (same_told d f x.0 y.0 (sym (digest_of_head name d n c) ∙ ap (value_in (name_text names.ContentDigest)) s.0 ∙ digest_of_head name f m k))
-    (same_size n m x.1 y.1 (sym (size_of_head name d n c) ∙ ap (value_in (name_text names.ContentLength)) s.0 ∙ size_of_head name f m k))
+    ap₂ replies.BlobHead (same_digests d f x.0 y.0 (sym ((says name (replies.BlobHead d n) true c).0) ∙ ap (value_in (name_text names.ContentDigest)) s.0 ∙ (says name (replies.BlobHead f m) true k).0))
+    (same_size n m x.1 y.1 (sym ((says name (replies.BlobHead d n) true c).1) ∙ ap (value_in (name_text names.ContentLength)) s.0 ∙ (says name (replies.BlobHead f m) true k).1))
 heads_alike name (replies.BlobHead d n) b c k i j x y e = absurd j
 heads_alike name a b c k i j x y e = absurd i
 
@@ -170,8 +170,8 @@ pub manifests_alike : (name : List ℕ) (a b : Reply) (c k : Bool) → IsManifes
 unfolding parts_of shown_body
 manifests_alike name (replies.Manifest d u v) (replies.Manifest f t w) c k i j x y e =
     let s = fields_alike name (replies.Manifest d u v) (replies.Manifest f t w) false c k (all_are [] (replies.Manifest d u v) c (free_nil 13) x) (all_are [] (replies.Manifest f t w) k (free_nil 13) y) refl e in
-    let digest = same_told d f x y (sym (digest_of_manifest name d u v c) ∙ ap (value_in (name_text names.ContentDigest)) s.0 ∙ digest_of_manifest name f t w k) in
-    let media = same_media u t (sym (media_of_manifest name d u v c) ∙ ap (value_in (name_text names.ContentType)) s.0 ∙ media_of_manifest name f t w k) in
+    let digest = same_digests d f x y (sym ((says name (replies.Manifest d u v) false c).0) ∙ ap (value_in (name_text names.ContentDigest)) s.0 ∙ (says name (replies.Manifest f t w) false k).0) in
+    let media = same_media u t (sym ((says name (replies.Manifest d u v) false c).1) ∙ ap (value_in (name_text names.ContentType)) s.0 ∙ (says name (replies.Manifest f t w) false k).1) in
     ap₂ (λ (r : List ℕ × Media) (z : List ℕ). replies.Manifest r.0 r.1 z) (ap₂ (λ (r : List ℕ) (z : Media). (r, z)) digest media) s.1
 manifests_alike name (replies.Manifest d u v) b c k i j x y e = absurd j
 manifests_alike name a b c k i j x y e = absurd i
@@ -180,9 +180,9 @@ pub manifest_heads_alike : (name : List ℕ) (a b : Reply) (c k : Bool) → IsMa
 unfolding parts_of
 manifest_heads_alike name (replies.ManifestHead d u n) (replies.ManifestHead f t m) c k i j x y e =
     let s = fields_alike name (replies.ManifestHead d u n) (replies.ManifestHead f t m) true c k (all_are [] (replies.ManifestHead d u n) c (free_nil 13) x) (all_are [] (replies.ManifestHead f t m) k (free_nil 13) y) refl e in
-    let digest = same_told d f x.0 y.0 (sym (digest_of_manifest_head name d u n c) ∙ ap (value_in (name_text names.ContentDigest)) s.0 ∙ digest_of_manifest_head name f t m k) in
-    let media = same_media u t (sym (media_of_manifest_head name d u n c) ∙ ap (value_in (name_text names.ContentType)) s.0 ∙ media_of_manifest_head name f t m k) in
-    let size = same_size n m x.1 y.1 (sym (size_of_manifest_head name d u n c) ∙ ap (value_in (name_text names.ContentLength)) s.0 ∙ size_of_manifest_head name f t m k) in
+    let digest = same_digests d f x.0 y.0 (sym ((says name (replies.ManifestHead d u n) true c).0) ∙ ap (value_in (name_text names.ContentDigest)) s.0 ∙ (says name (replies.ManifestHead f t m) true k).0) in
+    let media = same_media u t (sym ((says name (replies.ManifestHead d u n) true c).1) ∙ ap (value_in (name_text names.ContentType)) s.0 ∙ (says name (replies.ManifestHead f t m) true k).1) in
+    let size = same_size n m x.1 y.1 (sym ((says name (replies.ManifestHead d u n) true c).2) ∙ ap (value_in (name_text names.ContentLength)) s.0 ∙ (says name (replies.ManifestHead f t m) true k).2) in
     ap₂ (λ (r : List ℕ × Media) (z : ℕ). replies.ManifestHead r.0 r.1 z) (ap₂ (λ (r : List ℕ) (z : Media). (r, z)) digest media) size
 manifest_heads_alike name (replies.ManifestHead d u n) b c k i j x y e = absurd j
 manifest_heads_alike name a b c k i j x y e = absurd i
@@ -198,11 +198,11 @@ manifest_rest_are digest subject close is of = (all_are [] (replies.ManifestMade
 -- the place isn't the subject
 subject_of_rest : (digest : List ℕ) (subject : Option (List ℕ)) (close : Bool) → value_in (name_text names.Subject) (manifest_rest digest subject close) ≡ option_map digest_text subject
 unfolding parts_of all_fields field_of name_text
-subject_of_rest digest subject close = subject_of_manifest_made [] digest subject close
+subject_of_rest digest subject close = (says [] (replies.ManifestMade digest subject) false close).1
 
 same_subject : (s t : Option (List ℕ)) → IfSome s IsDigest → IfSome t IsDigest → option_map digest_text s ≡ option_map digest_text t → s ≡ t
 same_subject None None x y e = refl
-same_subject (Some d) (Some f) x y e = ap Some (same_told d f x y e)
+same_subject (Some d) (Some f) x y e = ap Some (same_digests d f x y e)
 same_subject None (Some f) x y e = cc e
 same_subject (Some d) None x y e = cc e
 
@@ -222,7 +222,7 @@ pub indexes_alike : (name : List ℕ) (a b : Reply) (c k : Bool) → IsReferrers
 unfolding parts_of shown_body
 indexes_alike name (replies.Referrers v t) (replies.Referrers w u) c k i j e =
     let s = fields_alike name (replies.Referrers v t) (replies.Referrers w u) false c k (all_are [] (replies.Referrers v t) c (free_nil 13) tt) (all_are [] (replies.Referrers w u) k (free_nil 13) tt) refl e in
-    ap₂ replies.Referrers s.1 (sym (filter_of_index name v t c) ∙ ap (λ (f : List Field). is_some (value_in (name_text names.FiltersApplied) f)) s.0 ∙ filter_of_index name w u k)
+    ap₂ replies.Referrers s.1 (sym ((says name (replies.Referrers v t) false c).1) ∙ ap (λ (f : List Field). is_some (value_in (name_text names.FiltersApplied) f)) s.0 ∙ (says name (replies.Referrers w u) false k).1)
 indexes_alike name (replies.Referrers v t) b c k i j e = absurd j
 indexes_alike name a b c k i j e = absurd i
 

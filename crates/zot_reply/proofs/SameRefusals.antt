@@ -28,8 +28,8 @@ use Rattle.zot_spell.proofs.AlikeLemmas.{digest_length}
 use Rattle.zot_reply.proofs.CodeLemmas.{body_size, distinct_codes, has_size, high_status, one_code, range_status, size_small}
 use Rattle.zot_reply.proofs.DetailLemmas.{detail_back, differ_place, missing_place, not_session, real_detail, unseen_kind}
 use Rattle.zot_reply.proofs.FieldLemmas.{all_are, free_nil}
-use Rattle.zot_reply.proofs.SameLemmas.{AreSpelledAlike, fields_alike, lines_alike, same_digest, same_upload, told_alike, upload_rest}
-use Rattle.zot_reply.proofs.ToldLemmas.{fields_of}
+use Rattle.zot_reply.proofs.SameLemmas.{AreSpelledAlike, fields_alike, lines_alike, same_digest, same_upload, status_alike, upload_rest}
+use Rattle.zot_reply.proofs.ValueLemmas.{fields_of}
 use Rattle.zot_reply.specs.Details.{TellsMissing, detail_front}
 
 -- ---- the fields of refusals
@@ -49,11 +49,11 @@ refusal_are name status code detail close none is =
     subst (λ (own : List Field). AreFields (own ++ (type_fields (Some json_media) ++ (length_fields status (length (error_body code detail)) ++ closing_fields close)))) (sym (unnamed name detail none))
     (all_are [] (replies.Refused status code detail) close (free_nil 13) is)
 
-size_told : (name : List ℕ) (status : ℕ) (code : Code) (detail : Detail) (close : Bool) → (status == 204) ≡ false
+size_in : (name : List ℕ) (status : ℕ) (code : Code) (detail : Detail) (close : Bool) → (status == 204) ≡ false
     → value_in (name_text names.ContentLength) (fields_of name (replies.Refused status code detail) close) ≡ Some (decimal (length (error_body code detail)))
 unfolding parts_of all_fields refusal_fields upload_fields allow_field type_fields length_fields length_field_of field_of name_text
-size_told name status code details.None close h = rw h refl
-size_told name status code detail close h = rw h refl
+size_in name status code details.None close h = rw h refl
+size_in name status code detail close h = rw h refl
 
 -- where the statuses are the same, so are the sizes and the shown bodies
 same_parts : (name : List ℕ) (a b : Code) (x y : Detail) (head c k : Bool) → (SaysSession x → ⊥) → (SaysSession y → ⊥) → IsRealDetail x → IsRealDetail y → status_of a ≡ status_of b
@@ -62,19 +62,19 @@ same_parts : (name : List ℕ) (a b : Code) (x y : Detail) (head c k : Bool) →
 unfolding parts_of
 same_parts name a b x y head c k p q d f s e =
     let same = fields_alike name (refusal_with a x) (refusal_with b y) head c k (refusal_are name (status_of a) a x c p d) (refusal_are name (status_of b) b y k q f) s e in (
-      sym (size_told name (status_of a) a x c (not_content (status_of a) (high_status a).0)) ∙ ap (value_in (name_text names.ContentLength)) same.0 ∙ size_told name (status_of b) b y k (not_content (status_of b) (high_status b).0),
+      sym (size_in name (status_of a) a x c (not_content (status_of a) (high_status a).0)) ∙ ap (value_in (name_text names.ContentLength)) same.0 ∙ size_in name (status_of b) b y k (not_content (status_of b) (high_status b).0),
       same.1,
     )
 
 -- ---- which code it is
 
-told_code : (name : List ℕ) (call : Call) (a b : Code) (x y : Detail) (head c k : Bool) → IsAmong (codes_of call) a → IsAmong (codes_of call) b → a ≢ BlobUploadInvalid → b ≢ BlobUploadInvalid
+sized_code : (name : List ℕ) (call : Call) (a b : Code) (x y : Detail) (head c k : Bool) → IsAmong (codes_of call) a → IsAmong (codes_of call) b → a ≢ BlobUploadInvalid → b ≢ BlobUploadInvalid
     → HasDetail a x → HasDetail b y → IsRealDetail x → IsRealDetail y → status_of a ≡ status_of b → AreSpelledAlike name head c k (refusal_with a x) (refusal_with b y) → a ≡ b
-told_code name call a b x y head c k i j p q h g d f s e =
-    let told = (same_parts name a b x y head c k (not_session a x p h) (not_session b y q g) d f s e).0 in
-    let texts : decimal (length (error_body a x)) ≡ decimal (length (error_body b y)) = cc told in
-    let sizes = ap decimal (sym (has_size a x p h (real_detail x d))) ∙ texts ∙ ap decimal (has_size b y q g (real_detail y f)) in
-    let size = decimal_injective (body_size a) (body_size b) (size_small a) (size_small b) sizes in
+sized_code name call a b x y head c k i j p q h g d f s e =
+    let sizes = (same_parts name a b x y head c k (not_session a x p h) (not_session b y q g) d f s e).0 in
+    let texts : decimal (length (error_body a x)) ≡ decimal (length (error_body b y)) = cc sizes in
+    let same_sizes = ap decimal (sym (has_size a x p h (real_detail x d))) ∙ texts ∙ ap decimal (has_size b y q g (real_detail y f)) in
+    let size = decimal_injective (body_size a) (body_size b) (size_small a) (size_small b) same_sizes in
     one_code (codes_of call) a b (distinct_codes call) i j (ap₂ (λ (n m : ℕ). n + 1000 * m) s size)
 
 -- ---- which detail it is, where the body is shown
@@ -116,11 +116,11 @@ seen_kind UpstreamIncomplete x y other h g d f e = seen_missing UpstreamIncomple
 seen_kind UpstreamInvalid x y other h g d f e = seen_missing UpstreamInvalid x y tt h g d f e
 seen_kind code x y other h g d f e = seen_nothing x y h g
 
-told_details : (name : List ℕ) (code : Code) (x y : Detail) (head c k : Bool) → code ≢ BlobUploadInvalid → HasDetail code x → HasDetail code y → IsRealDetail x → IsRealDetail y
+kind_details : (name : List ℕ) (code : Code) (x y : Detail) (head c k : Bool) → code ≢ BlobUploadInvalid → HasDetail code x → HasDetail code y → IsRealDetail x → IsRealDetail y
     → AreSpelledAlike name head c k (refusal_with code x) (refusal_with code y) → AreDetailsAlike head x y
 unfolding shown_body
-told_details name code x y true c k other h g d f e = unseen_kind code x y other h g
-told_details name code x y false c k other h g d f e =
+kind_details name code x y true c k other h g d f e = unseen_kind code x y other h g
+kind_details name code x y false c k other h g d f e =
     seen_kind code x y other h g (real_detail x d) (real_detail y f) (same_parts name code code x y false c k (not_session code x other h) (not_session code y other g) d f refl e).1
 
 -- ---- refusals that tell an upload
@@ -160,20 +160,20 @@ same_details : (name : List ℕ) (code : Code) (x y : Detail) (head c k : Bool) 
 same_details name code x y head c k (inl s) h g d f e =
     range_details name x y head c k (subst (λ (r : Code). HasDetail r x) s h) (subst (λ (r : Code). HasDetail r y) s g) d f
     (subst (λ (r : Code). AreSpelledAlike name head c k (refusal_with r x) (refusal_with r y)) s e)
-same_details name code x y head c k (inr other) h g d f e = told_details name code x y head c k other h g d f e
+same_details name code x y head c k (inr other) h g d f e = kind_details name code x y head c k other h g d f e
 
 same_code : (name : List ℕ) (call : Call) (a b : Code) (x y : Detail) (head c k : Bool) → (a ≡ BlobUploadInvalid) ⊎ (a ≢ BlobUploadInvalid) → (b ≡ BlobUploadInvalid) ⊎ (b ≢ BlobUploadInvalid)
     → IsAmong (codes_of call) a → IsAmong (codes_of call) b → HasDetail a x → HasDetail b y → IsRealDetail x → IsRealDetail y → status_of a ≡ status_of b
     → AreSpelledAlike name head c k (refusal_with a x) (refusal_with b y) → a ≡ b
 same_code name call a b x y head c k (inl p) q i j h g d f s e = p ∙ sym (range_status b (sym s ∙ ap status_of p))
 same_code name call a b x y head c k (inr p) (inl q) i j h g d f s e = absurd (p (range_status a (s ∙ ap status_of q)))
-same_code name call a b x y head c k (inr p) (inr q) i j h g d f s e = told_code name call a b x y head c k i j p q h g d f s e
+same_code name call a b x y head c k (inr p) (inr q) i j h g d f s e = sized_code name call a b x y head c k i j p q h g d f s e
 
 same_refusal : (name : List ℕ) (call : Call) (a b : Code) (x y : Detail) (head c k : Bool) → IsAmong (codes_of call) a → IsAmong (codes_of call) b → HasDetail a x → HasDetail b y → IsRealDetail x → IsRealDetail y
     → AreSpelledAlike name head c k (refusal_with a x) (refusal_with b y) → AreAlike head (refusal_with a x) (refusal_with b y)
 unfolding parts_of
 same_refusal name call a b x y head c k i j h g d f e =
-    let status : status_of a ≡ status_of b = told_alike name (refusal_with a x) (refusal_with b y) head c k (high_status a).1 (high_status b).1 e in
+    let status : status_of a ≡ status_of b = status_alike name (refusal_with a x) (refusal_with b y) head c k (high_status a).1 (high_status b).1 e in
     let code : a ≡ b = same_code name call a b x y head c k (either_code a) (either_code b) i j h g d f status e in
     let has = subst (λ (r : Code). HasDetail r x) code h in
     let bytes = subst (λ (r : Code). AreSpelledAlike name head c k (refusal_with r x) (refusal_with b y)) code e in

@@ -1,5 +1,5 @@
 -- The reply that bytes are is found.
-use Rattle.std.proofs.Common.{◌≡◌, ◌≢◌, ◌⊎◌, inl, inr, ℕ, zero, suc, ◌-◌, ◌<◌, Bool, true, false, List, [], ◌∷◌, ◌++◌, length, get_or, drop, Option, Some, None, refl, sym, ap, subst, ◌∙◌, arith, lit<}
+use Rattle.std.proofs.Common.{◌≡◌, inl, inr, ℕ, zero, suc, ◌<◌, Bool, true, false, List, [], ◌∷◌, ◌++◌, length, get_or, Option, Some, None, refl, sym, ap, subst, ◌∙◌, arith, lit<}
 use Rattle.std.specs.Prelude.{IfOk, IsSome, MatchOption, Result, Ok, Err}
 use Rattle.http.specs.StatusCode.{IsStatusCode}
 use Rattle.zot_model.specs.Calls.{is_head}
@@ -27,7 +27,8 @@ use Rattle.zot_spell.proofs.FitLemmas.{has_status, not_success}
 use Rattle.zot_reply.proofs.AloneLemmas.{alone}
 use Rattle.zot_reply.proofs.DetailLemmas.{real_detail}
 use Rattle.zot_reply.proofs.FieldLemmas.{all_are}
-use Rattle.zot_reply.specs.Reading.{Covers, IsRefusedAmong, IsRefusedAs, IsSplit, IsWanted, Spells}
+use Rattle.zot_reply.proofs.ValueLemmas.{seen_says}
+use Rattle.zot_reply.specs.Reading.{Covers, IsRefusedAmong, IsRefusedAs, IsSeen, IsWanted, Says, Seen, Spells, seen_of, seen_with}
 use Rattle.zot_reply.specs.declared.refusals.TheConstants.{CODES}
 
 -- ---- a reply is like itself
@@ -145,16 +146,19 @@ pub bytes_apart : (request : Request) (bytes : List ℕ) (reply : Reply) (s : Sp
 unfolding reply_bytes spelled head_of
 bytes_apart request bytes reply s = s.is
 
--- parts that are found are those of each reply that the bytes are
+seen_same : (n m : ℕ) (f g : List Field) (b d : List ℕ) → n ≡ m → f ≡ g → b ≡ d → seen_with n f b ≡ seen_with m g d
+seen_same n m f g b d x y z = rw (x, y, z) refl
+
+-- what is seen of the bytes is what is seen of each reply that they are
 pub wanted : (request : Request) (bytes : List ℕ) (found : Option SplitReply) → IsFree 13 (name_in (Some request))
     → ((status : ℕ) (fields : List Field) (body : List ℕ) → IsStatusCode status → AreFields fields → bytes ≡ head_text status fields ++ body
     → MatchOption found ⊥ (λ split. (split.status ≡ status) × (split.fields.items ≡ fields) × (split.body.now ≡ body)))
-    → (reply : Reply) → IsReal reply → Spells request reply bytes → MatchOption found ⊥ (IsWanted request reply bytes)
+    → (reply : Reply) → IsReal reply → Spells request reply bytes → MatchOption found ⊥ (λ split. IsWanted request reply bytes (seen_of split))
 wanted request bytes (Some split) free apart reply real s =
     let name = name_in (Some request) in
     let p = parts_of name reply in
     let m = apart p.status (all_fields p s.close) (shown_body (is_head request.call) p.body) (has_status (Some request) name reply s.fits) (all_are name reply s.close free real) (bytes_apart request bytes reply s) in
-    record { real = real; spells = s; parts = record { close = s.close; status = m.0; fields = m.1; body = m.2 } }
+    record { real = real; spells = s; is_seen = (s.close, seen_same split.status p.status split.fields.items (all_fields p s.close) split.body.now (shown_body (is_head request.call) p.body) m.0 m.1 m.2) }
 wanted request bytes None free apart reply real s =
     let name = name_in (Some request) in
     let p = parts_of name reply in
@@ -166,20 +170,11 @@ found_alike request bytes reply found x y s t = alone request reply found s.clos
 
 -- ---- successes
 
-pub success_found : {E : Type 0} (result : Result (Option Reply) E) (request : Request) (name bytes : List ℕ) (split : SplitReply) (found : Option Reply) (reply : Reply)
-    → Covers (IsSuccessOf request.call) (is_head request.call) name split found → found ≡ Some reply → name ≡ name_in (Some request)
-    → IfOk result (λ f. (other : Reply) → AreAlike (is_head request.call) other reply → Spells request other bytes → IsSome f)
-    → IfOk result (λ f. (other : Reply) → IsSuccessOf request.call other → IsWanted request other bytes split → IsSome f)
-success_found (Ok f) request name bytes split found reply covers s n h = λ other success w.
-    let is = subst (λ (r : List ℕ). IsSplit r (is_head request.call) other split) (sym n) w.parts in
-    h other (subst (λ (o : Option Reply). MatchOption o ⊥ (AreAlike (is_head request.call) other)) s (covers other success w.real is)) w.spells
-success_found (Err e) request name bytes split found reply covers s n h = tt
-
-pub success_none : (request : Request) (name bytes : List ℕ) (split : SplitReply) (found : Option Reply) → Covers (IsSuccessOf request.call) (is_head request.call) name split found → found ≡ None → name ≡ name_in (Some request)
-    → (other : Reply) → IsSuccessOf request.call other → IsWanted request other bytes split → ⊥
-success_none request name bytes split found covers s n other success w =
-    let is = subst (λ (r : List ℕ). IsSplit r (is_head request.call) other split) (sym n) w.parts in
-    subst (λ (o : Option Reply). MatchOption o ⊥ (AreAlike (is_head request.call) other)) s (covers other success w.real is)
+-- what is read as a success is like each success that the bytes are
+pub success_found : (request : Request) (name bytes : List ℕ) (seen : Seen) (found reply : Reply) → Covers (IsSuccessOf request.call) (is_head request.call) name seen found → name ≡ name_in (Some request)
+    → IsSuccessOf request.call reply → IsWanted request reply bytes seen → AreAlike (is_head request.call) reply found
+success_found request name bytes seen found reply covers n success w =
+    covers reply success w.real (subst (λ (r : List ℕ). Says r (is_head request.call) seen reply) (sym n) (seen_says (name_in (Some request)) (is_head request.call) reply seen w.is_seen))
 
 -- ---- refusals
 
@@ -234,26 +229,24 @@ among_all : (call : Call) (reply : Reply) → IsRefusalOf call reply → IsRefus
 among_all call (replies.Refused status code detail) h = (every code, h.1, h.2)
 among_all call reply h = absurd h
 
-pub refusal_found : {E : Type 0} (result : Result (Option Reply) E) (request : Request) (bytes : List ℕ) (split : SplitReply) (codes : List Code) (found : Option Reply) → codes ≡ CODES
-    → ((reply : Reply) → IsSuccessOf request.call reply → IsWanted request reply bytes split → IsSome found) → found ≡ None
-    → IfOk result (λ f. (reply : Reply) → IsRefusedAmong codes reply → IsWanted request reply bytes split → IsSome f)
-    → IfOk result (λ f. (reply : Reply) → IsWanted request reply bytes split → IsSome f)
-refusal_found (Ok f) request bytes split codes found all whole s h = λ reply w.
+pub refusal_found : {E : Type 0} (result : Result (Option Reply) E) (request : Request) (bytes : List ℕ) (seen : Seen) (codes : List Code) → codes ≡ CODES
+    → ((reply : Reply) → IsSuccessOf request.call reply → IsWanted request reply bytes seen → ⊥)
+    → IfOk result (λ f. (reply : Reply) → IsRefusedAmong codes reply → IsWanted request reply bytes seen → IsSome f)
+    → IfOk result (λ f. (reply : Reply) → IsWanted request reply bytes seen → IsSome f)
+refusal_found (Ok f) request bytes seen codes all none h = λ reply w.
     elim w.spells.fits [
-      | inl success ↦ absurd (some_none found (whole reply success w) s)
+      | inl success ↦ absurd (none reply success w)
       | inr refusal ↦ h reply (subst (λ (c : List Code). IsRefusedAmong c reply) (sym all) (among_all request.call reply refusal)) w
     ]
-refusal_found (Err e) request bytes split codes found all whole s h = tt
+refusal_found (Err e) request bytes seen codes all none h = tt
 
 -- a refusal that is confirmed is found
-pub refusal_confirmed : {E : Type 0} (result : Result (Option Reply) E) (request : Request) (code : Code) (bytes : List ℕ) (split : SplitReply) (head : Bool) (said : Detail) (status : ℕ)
-    → head ≡ is_head request.call → status ≡ status_of code → IsRealDetail said
-    → ((name : List ℕ) (detail : Detail) → IsRealDetail detail → HasDetail code detail → IsSplit name head (refusal_with code detail) split → AreDetailsAlike head detail said)
+pub refusal_confirmed : {E : Type 0} (result : Result (Option Reply) E) (request : Request) (code : Code) (bytes : List ℕ) (seen : Seen) (said : Detail) (status : ℕ) → status ≡ status_of code → IsRealDetail said
+    → ((name : List ℕ) (head : Bool) (detail : Detail) → IsRealDetail detail → HasDetail code detail → IsSeen name head (refusal_with code detail) seen → AreDetailsAlike head detail said)
     → IfOk result (λ f. (other : Reply) → AreAlike (is_head request.call) other (replies.Refused status code said) → Spells request other bytes → IsSome f)
-    → IfOk result (λ f. (reply : Reply) → IsRefusedAs code reply → IsWanted request reply bytes split → IsSome f)
-refusal_confirmed (Ok f) request code bytes split head said status e s real covers h = λ reply kind w.
-    for_refusal code (λ (r : Reply). IsWanted request r bytes split → IsSome f) (λ detail has v.
-    let parts = subst (λ (b : Bool). IsSplit (name_in (Some request)) b (refusal_with code detail) split) (sym e) v.parts in
-    let alike = subst (λ (b : Bool). AreDetailsAlike b detail said) e (covers (name_in (Some request)) detail v.real has parts) in
+    → IfOk result (λ f. (reply : Reply) → IsRefusedAs code reply → IsWanted request reply bytes seen → IsSome f)
+refusal_confirmed (Ok f) request code bytes seen said status s real covers h = λ reply kind w.
+    for_refusal code (λ (r : Reply). IsWanted request r bytes seen → IsSome f) (λ detail has v.
+    let alike = covers (name_in (Some request)) (is_head request.call) detail v.real has v.is_seen in
     h (refusal_with code detail) (sym s, refl, real_detail detail v.real, real_detail said real, alike) v.spells) reply kind w
-refusal_confirmed (Err e) request code bytes split head said status q s real covers h = tt
+refusal_confirmed (Err e) request code bytes seen said status s real covers h = tt

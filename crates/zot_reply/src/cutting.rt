@@ -1,46 +1,74 @@
-//! What stands at a place of some bytes.
-ghost use Rattle.std.specs.Prelude.{◌≡◌, ◌<◌, ◌^◌, ◌++◌, ℕ, List, length, Some, MatchOption};
+//! What stands at a place of some bytes. Where it doesn't stand there, something else is given: a reply that is made of it isn't confirmed.
+ghost use Rattle.std.specs.Prelude.{◌≡◌, ◌++◌, ◌∷◌, ℕ, List, length};
 ghost use Rattle.std.specs.Fmt.{decimal};
-ghost use Rattle.std.specs.Option.{option_copied};
 ghost use Rattle.zot_digest.specs.Digest.{IsDigest, digest_text};
+ghost use Rattle.zot_model.specs.Values.{IsWord};
+ghost use Rattle.zot_spell.specs.Heads.{IsFree};
 
 use std::str;
 use zot_digest::{Digest, read_digest};
+use zot_spell::cut;
 
 /// How many bytes the text of a digest has.
-const DIGEST_LENGTH: usize = 71;
+pub const DIGEST_LENGTH: usize = 71;
 
-/// What stands after so many bytes, where there are so many. Takes no memory.
-pub fn skip(bytes: &[u8], count: usize) -> Option<&[u8]>
-    ensures { (front rest : List ℕ) → length front ≡ count → bytes.now ≡ front ++ rest → option_copied result ≡ Some rest }
+/// What stands after so many bytes. Takes no memory.
+pub fn skip(bytes: &[u8], count: usize) -> &[u8]
+    ensures { (front rest : List ℕ) → length front ≡ count → bytes.now ≡ front ++ rest → result.now ≡ rest }
 {
     if bytes.len() < count {
-        return None;
+        b"".as_slice()
+    } else {
+        bytes.split_at(count).1
     }
-    Some(bytes.split_at(count).1)
 }
 
-/// The digest whose text stands first, and what stands after it. Takes no memory.
-pub fn first_digest(bytes: &[u8]) -> Option<(Digest, &[u8])>
-    ensures { (digest rest : List ℕ) → IsDigest digest → bytes.now ≡ digest_text digest ++ rest
-        → MatchOption result ⊥ (λ found. (found.0 ≡ digest) × (found.1.now ≡ rest)) }
+/// What stands before the first byte that is the end. Takes no memory.
+pub fn up_to(bytes: &[u8], end: u8) -> &[u8]
+    ensures { (text rest : List ℕ) → IsFree end text → bytes.now ≡ text ++ (end ∷ rest) → result.now ≡ text }
+{
+    match cut(bytes, end) {
+        Some(parts) => parts.0,
+        None => bytes,
+    }
+}
+
+/// What stands after the first byte that is the end. Takes no memory.
+pub fn after_first(bytes: &[u8], end: u8) -> &[u8]
+    ensures { (text rest : List ℕ) → IsFree end text → bytes.now ≡ text ++ (end ∷ rest) → result.now ≡ rest }
+{
+    match cut(bytes, end) {
+        Some(parts) => parts.1,
+        None => bytes,
+    }
+}
+
+/// The digest whose text stands first. Takes no memory.
+pub fn first_digest(bytes: &[u8]) -> Digest
+    ensures { (digest rest : List ℕ) → IsDigest digest → bytes.now ≡ digest_text digest ++ rest → digest ≡ result }
 {
     if bytes.len() < DIGEST_LENGTH {
-        return None;
+        return Digest::from_bytes([0; 32]);
     }
-    let (text, rest) = bytes.split_at(DIGEST_LENGTH);
+    digest_of(bytes.split_at(DIGEST_LENGTH).0)
+}
+
+/// The digest whose text this is. Takes no memory.
+pub fn digest_of(text: &[u8]) -> Digest
+    ensures { (digest : List ℕ) → IsDigest digest → text.now ≡ digest_text digest → digest ≡ result }
+{
     match read_digest(text) {
-        Ok(digest) => Some((digest, rest)),
-        Err(_) => None,
+        Ok(digest) => digest,
+        Err(_) => Digest::from_bytes([0; 32]),
     }
 }
 
 /// The number whose decimal digits these bytes are. Takes no memory.
-pub fn number_of(text: &[u8]) -> Option<u64>
-    ensures { (n : ℕ) → n < 2 ^ 64 → text.now ≡ decimal n → result ≡ Some n }
+pub fn number_of(text: &[u8]) -> u64
+    ensures { (n : ℕ) → IsWord n → text.now ≡ decimal n → n ≡ result }
 {
     match str::from_utf8(text) {
-        Ok(text) => text.parse::<u64>().ok(),
-        Err(_) => None,
+        Ok(text) => text.parse::<u64>().unwrap_or(0),
+        Err(_) => 0,
     }
 }

@@ -1,21 +1,15 @@
 //! What refusals say beside their codes.
-ghost use Rattle.std.specs.Prelude.{◌≡◌, ◌++◌, ℕ, Bool, List, Some, MatchOption};
-ghost use Rattle.std.specs.Option.{option_copied};
-ghost use Rattle.zot_digest.specs.Digest.{IsDigest};
-ghost use Rattle.zot_model.specs.Codes.{HasDetail, SaysSession};
+ghost use Rattle.std.specs.Prelude.{ℕ, Bool, List};
+ghost use Rattle.zot_model.specs.Codes.{HasDetail};
 ghost use Rattle.zot_model.specs.Refusals.{refusal_with};
 ghost use Rattle.zot_model.specs.Values.{IsRealDetail};
-ghost use Rattle.zot_model.specs.declared.code.Code.TheVariants.{BlobUploadInvalid, UpstreamMismatch};
 ghost use Rattle.zot_model.specs.declared.detail.Detail.{Detail};
-ghost use Rattle.zot_model.specs.declared.detail.Detail.TheVariants as details;
 ghost use Rattle.zot_spell.specs.Alike.{AreDetailsAlike};
-ghost use Rattle.zot_spell.specs.Bodies.{error_body};
-ghost use Rattle.zot_spell.specs.Spelling.{shown_body};
-ghost use Rattle.zot_reply.specs.Details.{TellsMissing, detail_front};
-ghost use Rattle.zot_reply.specs.Reading.{IsSplit};
+ghost use Rattle.zot_reply.specs.Details.{FindsDigest};
+ghost use Rattle.zot_reply.specs.Reading.{IsSeen, seen_of};
 
 use crate::cutting::{first_digest, skip};
-use crate::told::told_upload;
+use crate::values::{upload_id, upload_length};
 use zot_digest::Digest;
 use zot_model::{Code, Detail, Methods};
 use zot_spell::SplitReply;
@@ -25,108 +19,38 @@ const BEFORE_CODE: usize = 20;
 
 const BEFORE_DETAIL: usize = 12;
 
-/// How many bytes of a detail stand before the digest that was wanted, and between that and the one that was found.
-const BEFORE_WANTED: usize = 9;
+/// How many bytes of a detail stand before the digest of what is missing, before the one that was wanted, and before the one that was found.
+const MISSING_AT: usize = 0;
 
-const BEFORE_FOUND: usize = 7;
+const WANTED_AT: usize = 9;
 
-/// What a refusal with this code says beside it, to the method HEAD or another. To HEAD no body is shown, so there each detail of the code's kind has the same spelling.
-pub fn told_detail(head: bool, code: Code, split: &SplitReply) -> Option<Detail>
-    ensures { (name : List ℕ) (detail : Detail) → IsRealDetail detail → HasDetail code detail
-        → IsSplit name head (refusal_with code detail) split.now → MatchOption result ⊥ (AreDetailsAlike head detail) }
+const FOUND_AT: usize = 87;
+
+/// What a refusal with this code says beside it. To HEAD no body is shown, so there each detail of the code's kind is spelled alike.
+pub fn detail_of(code: Code, split: &SplitReply) -> Detail
+    ensures { (name : List ℕ) (head : Bool) (detail : Detail) → IsRealDetail detail → HasDetail code detail
+        → IsSeen name head (refusal_with code detail) (seen_of split.now) → AreDetailsAlike head detail result }
 {
     match code {
-        Code::BlobUploadInvalid => told_session(split),
-        Code::ManifestBlobUnknown => told_missing(head, code, split.body),
-        Code::UpstreamIncomplete => told_missing(head, code, split.body),
-        Code::UpstreamInvalid => told_missing(head, code, split.body),
-        Code::UpstreamMismatch => told_differing(head, split.body),
-        Code::Unsupported => Some(Detail::Allow(Methods::Read)),
-        _ => Some(Detail::None),
+        Code::BlobUploadInvalid => Detail::Session(upload_id(split), upload_length(split)),
+        Code::ManifestBlobUnknown => Detail::Missing(digest_at(code, split.body, MISSING_AT)),
+        Code::UpstreamIncomplete => Detail::Missing(digest_at(code, split.body, MISSING_AT)),
+        Code::UpstreamInvalid => Detail::Missing(digest_at(code, split.body, MISSING_AT)),
+        Code::UpstreamMismatch => {
+            let wanted = digest_at(code, split.body, WANTED_AT);
+            Detail::Differ(wanted, digest_at(code, split.body, FOUND_AT))
+        }
+        Code::Unsupported => Detail::Allow(Methods::Read),
+        _ => Detail::None,
     }
 }
 
-// How far an upload has come.
-fn told_session(split: &SplitReply) -> Option<Detail>
-    ensures { (name : List ℕ) (head : Bool) (detail : Detail) → IsRealDetail detail → SaysSession detail
-        → IsSplit name head (refusal_with BlobUploadInvalid detail) split.now → MatchOption result ⊥ (AreDetailsAlike head detail) }
+// The digest at this place of the detail in the body of a refusal with this code.
+fn digest_at(code: Code, body: &[u8], place: usize) -> Digest
+    ensures { FindsDigest code body.now place result }
 {
-    let fields = split.fields.as_slice();
-    let Some(upload) = told_upload(fields) else {
-        return None;
-    };
-    Some(Detail::Session(upload.0, upload.1))
-}
-
-// The digest of what is missing or unreadable, or to HEAD any one.
-fn told_missing(head: bool, code: Code, body: &[u8]) -> Option<Detail>
-    requires { TellsMissing code }
-    ensures { (digest : List ℕ) → IsDigest digest → body.now ≡ shown_body head (error_body code (details.Missing digest))
-        → MatchOption result ⊥ (AreDetailsAlike head (details.Missing digest)) }
-{
-    if head {
-        return Some(Detail::Missing(any_digest()));
-    }
-    let Some(text) = detail_in(code, body) else {
-        return None;
-    };
-    let Some(first) = first_digest(text) else {
-        return None;
-    };
-    Some(Detail::Missing(first.0))
-}
-
-// The digest that was wanted and the one that was found, or to HEAD any two.
-fn told_differing(head: bool, body: &[u8]) -> Option<Detail>
-    ensures { (wanted found : List ℕ) → IsDigest wanted → IsDigest found → body.now ≡ shown_body head (error_body UpstreamMismatch (details.Differ wanted found))
-        → MatchOption result ⊥ (AreDetailsAlike head (details.Differ wanted found)) }
-{
-    if head {
-        return Some(Detail::Differ(any_digest(), any_digest()));
-    }
-    let Some(digests) = differing_in(body) else {
-        return None;
-    };
-    Some(Detail::Differ(digests.0, digests.1))
-}
-
-// The two digests of such a body.
-fn differing_in(body: &[u8]) -> Option<(Digest, Digest)>
-    ensures { (wanted found : List ℕ) → IsDigest wanted → IsDigest found → body.now ≡ error_body UpstreamMismatch (details.Differ wanted found)
-        → result ≡ Some (wanted, found) }
-{
-    let Some(text) = detail_in(Code::UpstreamMismatch, body) else {
-        return None;
-    };
-    let Some(from_wanted) = skip(text, BEFORE_WANTED) else {
-        return None;
-    };
-    let Some(wanted) = first_digest(from_wanted) else {
-        return None;
-    };
-    let Some(from_found) = skip(wanted.1, BEFORE_FOUND) else {
-        return None;
-    };
-    let Some(found) = first_digest(from_found) else {
-        return None;
-    };
-    Some((wanted.0, found.0))
-}
-
-// The body of a refusal with this code, from its detail's text on.
-fn detail_in(code: Code, body: &[u8]) -> Option<&[u8]>
-    ensures { (rest : List ℕ) → body.now ≡ detail_front code ++ rest → option_copied result ≡ Some rest }
-{
-    let Some(from_code) = skip(body, BEFORE_CODE) else {
-        return None;
-    };
-    let Some(after_code) = skip(from_code, code.text().len()) else {
-        return None;
-    };
-    skip(after_code, BEFORE_DETAIL)
-}
-
-// A digest.
-fn any_digest() -> Digest {
-    Digest::from_bytes([0; 32])
+    let from_code = skip(body, BEFORE_CODE);
+    let after_code = skip(from_code, code.text().len());
+    let detail = skip(after_code, BEFORE_DETAIL);
+    first_digest(skip(detail, place))
 }

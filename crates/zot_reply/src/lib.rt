@@ -10,7 +10,7 @@ mod read_reply_error;
 mod refusals;
 mod replying;
 mod successes;
-mod told;
+mod values;
 
 pub use crate::laws::{alike_itself, only_alike_replies};
 pub use crate::read_reply_error::ReadReplyError;

@@ -1,74 +1,52 @@
-//! What pages of tags tell.
-ghost use Rattle.std.specs.Prelude.{◌≡◌, ◌<◌, ◌^◌, ◌++◌, ◌∷◌, [], ℕ, Bool, List, length, Some, None, true, false, IfOk, IfSome, MatchOption};
-ghost use Rattle.std.specs.Fmt.{decimal};
-ghost use Rattle.std.specs.List.{AllByRecursion};
+//! What pages of tags say.
+ghost use Rattle.std.specs.Prelude.{◌≡◌, ◌<◌, [], ◌∷◌, ℕ, Bool, List, length, Some, None, true, false, IfOk, IfSome, MatchOption};
+ghost use Rattle.std.specs.List.{AllByRecursion, AllPass};
+ghost use Rattle.zot_model.specs.Values.{IsWord};
+ghost use Rattle.zot_names.specs.Name.{is_name_byte};
 ghost use Rattle.zot_names.specs.Tag.{IsTag};
-ghost use Rattle.zot_reply.specs.Pages.{tags_text};
+ghost use Rattle.zot_reply.specs.Pages.{link_rest, tags_text};
 ghost use Rattle.zot_spell.specs.Bodies.{page_body};
 ghost use Rattle.zot_spell.specs.Fields.{link_text};
-ghost use Rattle.zot_spell.specs.Heads.{name_text, value_in};
-ghost use Rattle.zot_spell.specs.declared.field_name.FieldName.TheVariants as names;
 
-use crate::cutting::{number_of, skip};
+use crate::cutting::{after_first, number_of, skip, up_to};
 use std::alloc::{AllocError, Global};
 use std::str;
 use zot_names::{NameError, Tag, TagList};
-use zot_spell::{Field, FieldName, cut, page_body, value_in};
+use zot_spell::cut;
 
-/// How many bytes stand before the name in a link, and between the name and the number.
+/// How many bytes stand before the name in a link, between the name and the number, and between that, after its `&`, and the tag.
 const BEFORE_NAME: usize = 5;
 
 const BEFORE_NUMBER: usize = 13;
 
-/// The number and the tag of the link to the next page, where there is one.
-pub fn told_link(
-    alloc: Global,
-    name: &str,
-    fields: &[Field],
-) -> Result<Option<(u64, Tag)>, AllocError>
-    ensures linked { IfOk result (λ found. (n : ℕ) (tag : List ℕ) → n < 2 ^ 64 → IsTag tag
-        → value_in (name_text names.Link) fields.now ≡ Some (link_text name.now n tag) → found ≡ Some (n, tag)) }
-    ensures last { IfOk result (λ found. value_in (name_text names.Link) fields.now ≡ None → found ≡ None) }
+const BEFORE_TAG: usize = 5;
+
+/// How many bytes stand before the name in a page, and between the name and the tags.
+const BEFORE_PAGE_NAME: usize = 9;
+
+const BEFORE_TAGS: usize = 10;
+
+/// The most tags that the link to the next page asks for.
+pub fn link_number(name: &str, link: &[u8]) -> u64
+    ensures { (n : ℕ) (tag : List ℕ) → IsWord n → link.now ≡ link_text name.now n tag → n ≡ result }
 {
-    let Some(link) = value_in(FieldName::Link, fields) else {
-        return Ok(None);
-    };
-    let Some((digits, text)) = link_parts(name, link) else {
-        return Ok(None);
-    };
-    let Some(n) = number_of(digits) else {
-        return Ok(None);
-    };
-    match tag_of(alloc, text)? {
-        Some(tag) => Ok(Some((n, tag))),
-        None => Ok(None),
-    }
+    number_of(up_to(from_number(name, link), b'&'))
 }
 
-// The digits and the tag of a link.
-fn link_parts<'a>(name: &str, link: &'a [u8]) -> Option<(&'a [u8], &'a [u8])>
-    ensures { (n : ℕ) (tag : List ℕ) → IsTag tag → link.now ≡ link_text name.now n tag
-        → MatchOption result ⊥ (λ parts. (parts.0.now ≡ decimal n) × (parts.1.now ≡ tag)) }
+/// The tag after which the next page begins.
+pub fn link_tag(alloc: Global, name: &str, link: &[u8]) -> Result<Option<Tag>, AllocError>
+    ensures { IfOk result (λ found. (n : ℕ) (tag : List ℕ) → IsTag tag → link.now ≡ link_text name.now n tag → found ≡ Some tag) }
 {
-    let Some(from_name) = skip(link, BEFORE_NAME) else {
-        return None;
-    };
-    let Some(after_name) = skip(from_name, name.len()) else {
-        return None;
-    };
-    let Some(from_number) = skip(after_name, BEFORE_NUMBER) else {
-        return None;
-    };
-    let Some((digits, rest)) = cut(from_number, b'&') else {
-        return None;
-    };
-    let Some((_, from_tag)) = cut(rest, b'=') else {
-        return None;
-    };
-    let Some((tag, _)) = cut(from_tag, b'>') else {
-        return None;
-    };
-    Some((digits, tag))
+    let from_tag = skip(after_first(from_number(name, link), b'&'), BEFORE_TAG);
+    tag_of(alloc, up_to(from_tag, b'>'))
+}
+
+// A link from its number on.
+fn from_number<'a>(name: &str, link: &'a [u8]) -> &'a [u8]
+    ensures { (n : ℕ) (tag : List ℕ) → link.now ≡ link_text name.now n tag → result.now ≡ link_rest n tag }
+{
+    let from_name = skip(link, BEFORE_NAME);
+    skip(skip(from_name, name.len()), BEFORE_NUMBER)
 }
 
 // The tag that these bytes are.
@@ -86,17 +64,13 @@ fn tag_of(alloc: Global, text: &[u8]) -> Result<Option<Tag>, AllocError>
 }
 
 /// The tags of a page of the repository of this name.
-pub fn told_tags(alloc: Global, name: &str, body: &[u8]) -> Result<Option<TagList>, AllocError>
-    ensures { IfOk result (λ found. (tags : List (List ℕ)) → AllByRecursion IsTag tags → body.now ≡ page_body name.now tags → found ≡ Some tags) }
+pub fn tags_of(alloc: Global, name: &str, body: &[u8]) -> Result<TagList, AllocError>
+    requires { AllPass is_name_byte name.now }
+    ensures { IfOk result (λ found. (tags : List (List ℕ)) → AllByRecursion IsTag tags → body.now ≡ page_body name.now tags → tags ≡ found) }
 {
-    let none = Vec::new(alloc);
-    let empty = page_body(alloc, name, none.as_slice())?;
-    // A page ends with its tags, and then `]}`.
-    let Some(rest) = skip(body, empty.len().saturating_sub(2)) else {
-        return Ok(None);
-    };
-    let tags = tags_in(alloc, rest)?;
-    Ok(Some(TagList::new(tags)))
+    let from_name = skip(body, BEFORE_PAGE_NAME);
+    let tags = tags_in(alloc, skip(skip(from_name, name.len()), BEFORE_TAGS))?;
+    Ok(TagList::new(tags))
 }
 
 // The tags whose texts these are, through the end of their page.

@@ -1,10 +1,10 @@
 //! Refusals that bytes may be.
 ghost use Rattle.std.specs.Prelude.{IfOk, IfSome, IsSome};
 ghost use Rattle.zot_model.specs.declared.reply.Reply.{Reply};
-ghost use Rattle.zot_reply.specs.Reading.{IsRefusedAmong, IsRefusedAs, IsWanted, Spells};
+ghost use Rattle.zot_reply.specs.Reading.{IsRefusedAmong, IsRefusedAs, IsWanted, Spells, seen_of};
 
 use crate::confirming::confirm;
-use crate::details::told_detail;
+use crate::details::detail_of;
 use std::alloc::{AllocError, Global};
 use zot_model::{Code, Reply, Request, real_values};
 use zot_spell::SplitReply;
@@ -46,7 +46,7 @@ pub fn read_refusals(
     split: &SplitReply,
 ) -> Result<Option<Reply>, AllocError>
     ensures sound { IfOk result (λ found. IfSome found (λ reply. Spells request.now reply bytes.now)) }
-    ensures whole { IfOk result (λ found. (reply : Reply) → IsRefusedAmong codes.now reply → IsWanted request.now reply bytes.now split.now → IsSome found) }
+    ensures whole { IfOk result (λ found. (reply : Reply) → IsRefusedAmong codes.now reply → IsWanted request.now reply bytes.now (seen_of split.now) → IsSome found) }
 {
     for code in codes {
         if let Some(reply) = read_refusal(alloc, request, *code, bytes, split)? {
@@ -56,7 +56,7 @@ pub fn read_refusals(
     Ok(None)
 }
 
-// The same with this code.
+// The refusal with this code that bytes are, if they are one.
 fn read_refusal(
     alloc: Global,
     request: &Request,
@@ -65,15 +65,13 @@ fn read_refusal(
     split: &SplitReply,
 ) -> Result<Option<Reply>, AllocError>
     ensures sound { IfOk result (λ found. IfSome found (λ reply. Spells request.now reply bytes.now)) }
-    ensures whole { IfOk result (λ found. (reply : Reply) → IsRefusedAs code reply → IsWanted request.now reply bytes.now split.now → IsSome found) }
+    ensures whole { IfOk result (λ found. (reply : Reply) → IsRefusedAs code reply → IsWanted request.now reply bytes.now (seen_of split.now) → IsSome found) }
 {
     let status = code.status();
     if status != split.status {
         return Ok(None);
     }
-    let Some(detail) = told_detail(request.call.is_head(), code, split) else {
-        return Ok(None);
-    };
+    let detail = detail_of(code, split);
     let reply = Reply::Refused {
         status,
         code,

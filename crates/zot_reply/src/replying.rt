@@ -1,11 +1,12 @@
 //! Replies read back from their bytes.
 ghost use Rattle.std.specs.Prelude.{◌≡◌, Some, IfOk, IfSome, IsSome, Err, MatchResult};
+ghost use Rattle.std.specs.List.{AllPass};
 ghost use Rattle.zot_model.specs.Calls.{is_head};
-ghost use Rattle.zot_model.specs.Fits.{IsSuccessOf};
 ghost use Rattle.zot_model.specs.Values.{IsReal};
 ghost use Rattle.zot_model.specs.declared.reply.Reply.{Reply};
+ghost use Rattle.zot_names.specs.Name.{is_name_byte};
 ghost use Rattle.zot_reply.specs.declared.read_reply_error.ReadReplyError.TheVariants.{Bad, NoMemory};
-ghost use Rattle.zot_reply.specs.Reading.{IsWanted, Spells};
+ghost use Rattle.zot_reply.specs.Reading.{IsWanted, Spells, seen_of};
 ghost use Rattle.zot_spell.specs.Alike.{AreAlike};
 ghost use Rattle.zot_spell.specs.Spelling.{name_in};
 
@@ -37,7 +38,7 @@ pub fn read_reply(alloc: Global, request: &Request, bytes: &[u8]) -> Result<Repl
     }
 }
 
-// The reply to a request on the repository of this name that bytes are, if they are one, of which these are the parts.
+// The reply to a request on the repository of this name that bytes are, if they are one.
 fn find_reply(
     alloc: Global,
     request: &Request,
@@ -45,30 +46,14 @@ fn find_reply(
     bytes: &[u8],
     split: &SplitReply,
 ) -> Result<Option<Reply>, AllocError>
-    requires { name.now ≡ name_in (Some request.now) }
+    requires name { name.now ≡ name_in (Some request.now) }
+    requires bytes { AllPass is_name_byte name.now }
     ensures sound { IfOk result (λ found. IfSome found (λ reply. Spells request.now reply bytes.now)) }
-    ensures whole { IfOk result (λ found. (reply : Reply) → IsWanted request.now reply bytes.now split.now → IsSome found) }
+    ensures whole { IfOk result (λ found. (reply : Reply) → IsWanted request.now reply bytes.now (seen_of split.now) → IsSome found) }
 {
-    if let Some(reply) = find_success(alloc, request, name, bytes, split)? {
-        return Ok(Some(reply));
-    }
-    read_refusals(alloc, request, CODES.as_slice(), bytes, split)
-}
-
-// The same of a call that succeeds.
-fn find_success(
-    alloc: Global,
-    request: &Request,
-    name: &str,
-    bytes: &[u8],
-    split: &SplitReply,
-) -> Result<Option<Reply>, AllocError>
-    requires { name.now ≡ name_in (Some request.now) }
-    ensures sound { IfOk result (λ found. IfSome found (λ reply. Spells request.now reply bytes.now)) }
-    ensures whole { IfOk result (λ found. (reply : Reply) → IsSuccessOf request.now.call reply → IsWanted request.now reply bytes.now split.now → IsSome found) }
-{
-    match read_success(alloc, name, &request.call, split)? {
-        Some(reply) => confirm(alloc, request, reply, bytes),
-        None => Ok(None),
+    let success = read_success(alloc, name, &request.call, split)?;
+    match confirm(alloc, request, success, bytes)? {
+        Some(reply) => Ok(Some(reply)),
+        None => read_refusals(alloc, request, CODES.as_slice(), bytes, split),
     }
 }

@@ -1,30 +1,35 @@
 //! The replies with which calls succeed.
 ghost use Rattle.std.specs.Prelude.{◌≡◌, ℕ, Bool, List, false, true, IfOk};
+ghost use Rattle.std.specs.List.{AllPass};
 ghost use Rattle.zot_model.specs.Calls.{is_head};
 ghost use Rattle.zot_model.specs.Fits.{IsBlob, IsBlobHead, IsBlobMade, IsManifest, IsManifestHead, IsManifestMade, IsPage, IsReferrers, IsSuccessOf};
-ghost use Rattle.zot_reply.specs.Reading.{Covers, IsPosting, IsUpload};
+ghost use Rattle.zot_names.specs.Name.{is_name_byte};
+ghost use Rattle.zot_reply.specs.Reading.{Covers, IsPosting, IsUpload, seen_of};
 
-use crate::pages::{told_link, told_tags};
-use crate::told::{told_digest, told_media, told_size, told_upload};
+use crate::pages::{link_number, link_tag, tags_of};
+use crate::values::{
+    content_digest, content_length, content_media, subject_digest, upload_id, upload_length,
+};
 use std::alloc::{AllocError, Global};
 use zot_digest::Bytes;
 use zot_model::{Call, Reply};
 use zot_spell::{FieldName, SplitReply, value_in};
 
-/// The reply with which a call on the repository of this name succeeds, as its status and its fields tell it.
+/// The reply with which a call on the repository of this name succeeds, where the bytes that were split are such a reply; else another one.
 pub fn read_success(
     alloc: Global,
     name: &str,
     call: &Call,
     split: &SplitReply,
-) -> Result<Option<Reply>, AllocError>
-    ensures { IfOk result (Covers (IsSuccessOf call.now) (is_head call.now) name.now split.now) }
+) -> Result<Reply, AllocError>
+    requires { AllPass is_name_byte name.now }
+    ensures { IfOk result (Covers (IsSuccessOf call.now) (is_head call.now) name.now (seen_of split.now)) }
 {
     match call {
-        Call::Base => Ok(Some(Reply::Base)),
+        Call::Base => Ok(Reply::Base),
         Call::GetBlob(_) => read_blob(alloc, split),
         Call::HeadBlob(_) => Ok(read_blob_head(split)),
-        Call::DeleteBlob(_) | Call::DeleteManifest(_) => Ok(Some(Reply::Deleted)),
+        Call::DeleteBlob(_) | Call::DeleteManifest(_) => Ok(Reply::Deleted),
         Call::Post { .. } => Ok(read_post(split)),
         Call::Patch { .. } => Ok(read_upload(split)),
         Call::UploadState { .. } => Ok(read_upload(split)),
@@ -38,58 +43,44 @@ pub fn read_success(
 }
 
 // A blob.
-fn read_blob(alloc: Global, split: &SplitReply) -> Result<Option<Reply>, AllocError>
-    ensures { (name : List ℕ) → IfOk result (Covers IsBlob false name split.now) }
+fn read_blob(alloc: Global, split: &SplitReply) -> Result<Reply, AllocError>
+    ensures { (name : List ℕ) → IfOk result (Covers IsBlob false name (seen_of split.now)) }
 {
-    let fields = split.fields.as_slice();
-    let Some(digest) = told_digest(FieldName::ContentDigest, fields) else {
-        return Ok(None);
-    };
+    let digest = content_digest(split);
     let bytes = copied(alloc, split.body)?;
-    Ok(Some(Reply::Blob { digest, bytes }))
+    Ok(Reply::Blob { digest, bytes })
 }
 
 // A blob's size.
-fn read_blob_head(split: &SplitReply) -> Option<Reply>
-    ensures { (name : List ℕ) → Covers IsBlobHead true name split.now result }
+fn read_blob_head(split: &SplitReply) -> Reply
+    ensures { (name : List ℕ) → Covers IsBlobHead true name (seen_of split.now) result }
 {
-    let fields = split.fields.as_slice();
-    let Some(digest) = told_digest(FieldName::ContentDigest, fields) else {
-        return None;
-    };
-    let Some(size) = told_size(fields) else {
-        return None;
-    };
-    Some(Reply::BlobHead { digest, size })
+    let digest = content_digest(split);
+    let size = content_length(split);
+    Reply::BlobHead { digest, size }
 }
 
 // A blob that was stored.
-fn read_blob_made(split: &SplitReply) -> Option<Reply>
-    ensures { (name : List ℕ) → Covers IsBlobMade false name split.now result }
+fn read_blob_made(split: &SplitReply) -> Reply
+    ensures { (name : List ℕ) → Covers IsBlobMade false name (seen_of split.now) result }
 {
-    let fields = split.fields.as_slice();
-    let Some(digest) = told_digest(FieldName::ContentDigest, fields) else {
-        return None;
-    };
-    Some(Reply::BlobMade { digest })
+    let digest = content_digest(split);
+    Reply::BlobMade { digest }
 }
 
 // An upload.
-fn read_upload(split: &SplitReply) -> Option<Reply>
-    ensures { (name : List ℕ) → Covers IsUpload false name split.now result }
+fn read_upload(split: &SplitReply) -> Reply
+    ensures { (name : List ℕ) → Covers IsUpload false name (seen_of split.now) result }
 {
-    let fields = split.fields.as_slice();
-    let Some(upload) = told_upload(fields) else {
-        return None;
-    };
-    let (id, length) = upload;
+    let id = upload_id(split);
+    let length = upload_length(split);
     let status = split.status;
-    Some(Reply::Session { id, length, status })
+    Reply::Session { id, length, status }
 }
 
 // A blob that was stored, or an upload that began.
-fn read_post(split: &SplitReply) -> Option<Reply>
-    ensures { (name : List ℕ) → Covers IsPosting false name split.now result }
+fn read_post(split: &SplitReply) -> Reply
+    ensures { (name : List ℕ) → Covers IsPosting false name (seen_of split.now) result }
 {
     if split.status == 201 {
         read_blob_made(split)
@@ -99,85 +90,69 @@ fn read_post(split: &SplitReply) -> Option<Reply>
 }
 
 // A manifest that was stored.
-fn read_manifest_made(split: &SplitReply) -> Option<Reply>
-    ensures { (name : List ℕ) → Covers IsManifestMade false name split.now result }
+fn read_manifest_made(split: &SplitReply) -> Reply
+    ensures { (name : List ℕ) → Covers IsManifestMade false name (seen_of split.now) result }
 {
-    let fields = split.fields.as_slice();
-    let Some(digest) = told_digest(FieldName::ContentDigest, fields) else {
-        return None;
-    };
-    let subject = told_digest(FieldName::Subject, fields);
-    Some(Reply::ManifestMade { digest, subject })
+    let digest = content_digest(split);
+    let subject = subject_digest(split);
+    Reply::ManifestMade { digest, subject }
 }
 
 // A manifest.
-fn read_manifest(alloc: Global, split: &SplitReply) -> Result<Option<Reply>, AllocError>
-    ensures { (name : List ℕ) → IfOk result (Covers IsManifest false name split.now) }
+fn read_manifest(alloc: Global, split: &SplitReply) -> Result<Reply, AllocError>
+    ensures { (name : List ℕ) → IfOk result (Covers IsManifest false name (seen_of split.now)) }
 {
-    let fields = split.fields.as_slice();
-    let Some(digest) = told_digest(FieldName::ContentDigest, fields) else {
-        return Ok(None);
-    };
-    let Some(media) = told_media(fields) else {
-        return Ok(None);
-    };
+    let digest = content_digest(split);
+    let media = content_media(split);
     let bytes = copied(alloc, split.body)?;
-    Ok(Some(Reply::Manifest {
+    Ok(Reply::Manifest {
         digest,
         media,
         bytes,
-    }))
-}
-
-// A manifest's media and size.
-fn read_manifest_head(split: &SplitReply) -> Option<Reply>
-    ensures { (name : List ℕ) → Covers IsManifestHead true name split.now result }
-{
-    let fields = split.fields.as_slice();
-    let Some(digest) = told_digest(FieldName::ContentDigest, fields) else {
-        return None;
-    };
-    let Some(media) = told_media(fields) else {
-        return None;
-    };
-    let Some(size) = told_size(fields) else {
-        return None;
-    };
-    Some(Reply::ManifestHead {
-        digest,
-        media,
-        size,
     })
 }
 
-// A page of tags. One after which none follows has no number.
-fn read_page(alloc: Global, name: &str, split: &SplitReply) -> Result<Option<Reply>, AllocError>
-    ensures { IfOk result (Covers IsPage false name.now split.now) }
+// A manifest's media and size.
+fn read_manifest_head(split: &SplitReply) -> Reply
+    ensures { (name : List ℕ) → Covers IsManifestHead true name (seen_of split.now) result }
 {
-    let Some(tags) = told_tags(alloc, name, split.body)? else {
-        return Ok(None);
-    };
-    let fields = split.fields.as_slice();
-    match told_link(alloc, name, fields)? {
-        Some((n, tag)) => {
-            let next = Some(tag);
-            Ok(Some(Reply::Tags { tags, next, n }))
+    let digest = content_digest(split);
+    let media = content_media(split);
+    let size = content_length(split);
+    Reply::ManifestHead {
+        digest,
+        media,
+        size,
+    }
+}
+
+// A page of tags. One after which none follows has no number.
+fn read_page(alloc: Global, name: &str, split: &SplitReply) -> Result<Reply, AllocError>
+    requires { AllPass is_name_byte name.now }
+    ensures { IfOk result (Covers IsPage false name.now (seen_of split.now)) }
+{
+    let tags = tags_of(alloc, name, split.body)?;
+    match value_in(FieldName::Link, split.fields.as_slice()) {
+        Some(link) => {
+            let next = link_tag(alloc, name, link)?;
+            let n = link_number(name, link);
+            Ok(Reply::Tags { tags, next, n })
         }
         None => {
             let (next, n) = (None, 0);
-            Ok(Some(Reply::Tags { tags, next, n }))
+            Ok(Reply::Tags { tags, next, n })
         }
     }
 }
 
 // An index of referrers.
-fn read_referrers(alloc: Global, split: &SplitReply) -> Result<Option<Reply>, AllocError>
-    ensures { (name : List ℕ) → IfOk result (Covers IsReferrers false name split.now) }
+fn read_referrers(alloc: Global, split: &SplitReply) -> Result<Reply, AllocError>
+    ensures { (name : List ℕ) → IfOk result (Covers IsReferrers false name (seen_of split.now)) }
 {
     let text = copied(alloc, split.body)?;
     let fields = split.fields.as_slice();
     let filtered = value_in(FieldName::FiltersApplied, fields).is_some();
-    Ok(Some(Reply::Referrers { text, filtered }))
+    Ok(Reply::Referrers { text, filtered })
 }
 
 // A copy of these bytes.

@@ -8,7 +8,7 @@ use Rattle.zot_reply.proofs.cutting.number_of.Goals as goal
 pub returns-in-Ok : goal.returns-in-Ok
 returns-in-Ok c = λ n small e.
     let text : c.in-Ok.text.now ≡ decimal n = c.in-Ok.ensures.cases.0 ∙ e in
-    cc (c.ok.ensures.value, parse-decimal 64 n c.in-Ok.text.now c.parse.result small small text c.parse.ensures.value.0)
+    cc (c.unwrap_or.ensures, parse-decimal 64 n c.in-Ok.text.now c.parse.result small small text c.parse.ensures.value.0)
 
 pub returns-in-Err : goal.returns-in-Err
 returns-in-Err c = λ n small e.
