@@ -29,7 +29,7 @@ fn put_pieces<S: Store>(alloc: Global, store: &mut S, path: &str) -> Result<(), 
     Ok(())
 }
 
-/// Whether an object has these pieces, and nothing behind them.
+/// Whether an object has these pieces, and nothing after them.
 fn has_pieces<S: Store>(alloc: Global, store: &mut S, path: &str) -> Result<bool, StoreError> {
     let mut buf = vec![in alloc; 0; 65_536]?;
     let mut at = 0u64;

@@ -1,8 +1,8 @@
 -- What a folder's listing has, and which of its paths comes next.
-use Rattle.std.proofs.Common.{◌≡◌, ◌≢◌, ℕ, zero, suc, ◌<◌, ◌≤◌, Bool, true, false, cond, eqb, ltb, ◌+◌, ◌⊎◌, inl, inr, List, [], ◌∷◌, ◌++◌, length, get_or, take, drop, map, Option, Some, None, option_map, refl, sym, ap, ◌∙◌, subst, arith, All, Bor, String, string_bytes, string_cmp, IsSorted, IfSome, MatchOption, unwrap_or}
+use Rattle.std.proofs.Common.{◌≡◌, ◌≢◌, ℕ, zero, suc, ◌<◌, ◌≤◌, Bool, true, false, cond, eqb, ltb, ◌+◌, ◌⊎◌, inl, inr, List, [], ◌∷◌, ◌++◌, length, get_or, take, drop, map, Option, Some, None, option_map, refl, sym, ap, ◌∙◌, subst, arith, All, Bor, String, string_bytes, string_cmp, IsSorted, IfSome, IsSomeAnd, MatchOption, unwrap_or}
 use Rattle.std.proofs.lemmas.Bool.{eqb-false, ltb-false, ltb-true}
 use Rattle.std.proofs.lemmas.Cmp.{tied_itself, upto}
-use Rattle.std.proofs.lemmas.List.{append-nil, get_or-map, get_or-drop, get_or_default, length-drop, length-map, take_at}
+use Rattle.std.proofs.lemmas.List.{get_or-map, get_or-drop, get_or_default, length-drop, length-map, take_at}
 use Rattle.std.proofs.lemmas.List.Elements.{All-from_get_or, All-map, All-push}
 use Rattle.std.proofs.lemmas.List.Sorted.{ranks_by, sorted_far}
 use Rattle.std.specs.List.Sorted.{IsPartitionPoint, IsPartitionedBy}
@@ -14,23 +14,17 @@ use Rattle.std.specs.declared.cmp.Ordering.{Ordering}
 use Rattle.std.specs.declared.cmp.Ordering.TheVariants.{Less, Equal, Greater}
 use Rattle.std.specs.Ordering.{is_gt, is_le, is_lt, ordering_reverse}
 use Rattle.zot_maps.proofs.Maps.{byte_order}
-use Rattle.zot_outside.specs.Listing.{FindsAbove, IsChild, LiesIn, child_path}
+use Rattle.zot_outside.specs.Listing.{FindsAbove, IsChild, IsEntry, IsFileAbove, IsFilePath}
 use Rattle.zot_outside.specs.Objects.{path_cmp}
-
--- where a folder's path doesn't begin with another's, the folder doesn't lie in that one
-pub lies_out : (prefix above folder : List ℕ) → prefix ≡ above → ((rest : List ℕ) → folder ≢ prefix ++ rest) → LiesIn above folder → ⊥
-lies_out prefix above folder same apart (inl root) = apart folder (sym (ap (λ p. p ++ folder) (same ∙ root)))
-lies_out prefix above folder same apart (inr (inl is)) = apart [] (is ∙ sym same ∙ sym (append-nil prefix))
-lies_out prefix above folder same apart (inr (inr below)) = apart (47 ∷ below.0) (below.1 ∙ ap (λ p. p ++ 47 ∷ below.0) (sym same))
 
 -- no slash stands from a place on up to another
 abbrev Plain : List ℕ → ℕ → ℕ → Type 0
 Plain text from to = (i : ℕ) → from ≤ i → i < to → get_or text i 0 ≢ 47
 
 plain_more : (text : List ℕ) (from n : ℕ) → get_or text n 0 ≢ 47 → Plain text from n → Plain text from (suc n)
-plain_more text from n other plain i behind before =
+plain_more text from n other plain i reached before =
     elim (ltb i n) as (λ b. ltb i n ≡ b → get_or text i 0 ≢ 47) [
-      | true ↦ λ l. plain i behind (ltb-true i n l)
+      | true ↦ λ l. plain i reached (ltb-true i n l)
       | false ↦ λ l. let late = ltb-false i n l in let same : i ≡ n = omega arith in subst (λ k. get_or text k 0 ≢ 47) (sym same) other
     ] refl
 
@@ -38,12 +32,12 @@ plain_step : (text : List ℕ) (n : ℕ) (r : Option ℕ) → get_or text n 0 �
 plain_step text n None other h = plain_more text 0 n other h
 plain_step text n (Some k) other h = plain_more text (k + 1) n other h
 
--- behind the last slash among the first n bytes stands none
+-- no slash stands after the last one of the first n bytes
 plain_below : (text : List ℕ) (n : ℕ) → MatchOption (rfind_below 47 text n) (Plain text 0 n) (λ k. Plain text (k + 1) n)
-plain_below text zero = λ i behind before. absurd (omega arith)
+plain_below text zero = λ i reached before. absurd (omega arith)
 plain_below text (suc n) =
     elim (eqb (get_or text n 0) 47) as (λ b. eqb (get_or text n 0) 47 ≡ b → MatchOption (cond b (Some n) (rfind_below 47 text n)) (Plain text 0 (suc n)) (λ k. Plain text (k + 1) (suc n))) [
-      | true ↦ λ _ i behind before. absurd (omega arith)
+      | true ↦ λ _ i reached before. absurd (omega arith)
       | false ↦ λ other. plain_step text n (rfind_below 47 text n) (eqb-false (get_or text n 0) 47 other) (plain_below text n)
     ] refl
 
@@ -58,12 +52,11 @@ pub name_without_slash : {R A F D : Type 0} (entry : DirEntry R A F D) → All (
 unfolding rsplit_once
 name_without_slash entry = let path = dir_entry_path entry in last_plain path (rfind_below 47 path (length path)) (plain_below path (length path))
 
--- a path that was made of a name in a folder, with a slash behind it or none
-pub child_found : {Z : Type 0} (folder name path : List ℕ) (found : Option (String Z)) → All (λ b. b ≢ 47) name → path ≡ child_path folder name
-    → IfSome found (λ given. (string_bytes given ≡ path) ⊎ (string_bytes given ≡ path ++ 47 ∷ [])) → IfSome found (λ given. IsChild folder (string_bytes given))
-child_found folder name path None plain made given = tt
-child_found folder name path (Some one) plain made (inl is) = (name, plain, inl (is ∙ made))
-child_found folder name path (Some one) plain made (inr is) = (name, plain, inr (is ∙ ap (λ p. p ++ 47 ∷ []) made))
+-- the path of an entry is one in the folder, since its name has no slash
+pub child_found : {Z : Type 0} (folder name : List ℕ) (found : Option (String Z)) → All (λ b. b ≢ 47) name → IfSome found (λ path. IsEntry folder name (string_bytes path))
+    → IfSome found (λ path. IsChild folder (string_bytes path))
+child_found folder name None plain entry = tt
+child_found folder name (Some path) plain entry = (name, plain, entry)
 
 module _ {Z : Type 0} (bound : List ℕ) where
   -- whether a path isn't greater than the bound
@@ -118,8 +111,8 @@ least_above paths bound i k path d up point inside is listed greater =
     let other = string_bytes (get_or paths k d) in
     elim (ltb k i) as (λ b. ltb k i ≡ b → path_cmp other (string_bytes path) ≢ Less) [
       | true ↦ λ before. absurd (le_not_above (path_cmp other bound) (point.0 k d (omega arith) (ltb-true k i before)) (sym (byte_order.total.antisymm bound other) ∙ greater))
-      | false ↦ λ behind. subst (λ p. path_cmp other (string_bytes p) ≢ Less) (sym (is ∙ get_or_default paths i path d inside))
-          (not_lt _ (sorted_far _ (ranks_by byte_order.total string_bytes) paths up i k d (ltb-false k i behind) listed))
+      | false ↦ λ late. subst (λ p. path_cmp other (string_bytes p) ≢ Less) (sym (is ∙ get_or_default paths i path d inside))
+          (not_lt _ (sorted_far _ (ranks_by byte_order.total string_bytes) paths up i k d (ltb-false k i late) listed))
     ] refl
 
 -- the first that is greater is the least
@@ -144,25 +137,42 @@ equal_not_greater : Equal ≡ Greater → ⊥
 equal_not_greater h = cc h
 
 -- a path isn't greater than itself, nor than one that it is less than
-pub not_behind_itself : (path bound : List ℕ) → bound ≡ path → path_cmp path bound ≢ Greater
-not_behind_itself path bound is h = equal_not_greater (sym (tied_itself byte_order.total path) ∙ ap (path_cmp path) (sym is) ∙ h)
+pub itself_not_greater : (path bound : List ℕ) → bound ≡ path → path_cmp path bound ≢ Greater
+itself_not_greater path bound is h = equal_not_greater (sym (tied_itself byte_order.total path) ∙ ap (path_cmp path) (sym is) ∙ h)
 
-pub not_behind : (path other : List ℕ) → path_cmp path other ≡ Less → path_cmp path other ≢ Greater
-not_behind path other less h = cc (sym less ∙ h)
+pub less_not_greater : (path other : List ℕ) → path_cmp path other ≡ Less → path_cmp path other ≢ Greater
+less_not_greater path other less h = cc (sym less ∙ h)
 
 -- what is greater than a bound is greater than what the bound isn't less than
-pub behind_bound : (path bound other : List ℕ) → path_cmp path bound ≢ Greater → path_cmp bound other ≡ Less → path_cmp path other ≡ Less
-behind_bound path bound other h less =
+pub above_bound : (path bound other : List ℕ) → path_cmp path bound ≢ Greater → path_cmp bound other ≡ Less → path_cmp path other ≡ Less
+above_bound path bound other h less =
     elim (path_cmp path bound) as (λ r. path_cmp path bound ≡ r → path_cmp path other ≡ Less) [
       | Less ↦ λ first. byte_order.total.trans path bound other first less
       | Equal ↦ λ tied. byte_order.total.congr path bound other tied ∙ less
       | Greater ↦ λ greater. absurd (h greater)
     ] refl
 
--- a fact of each element, where one was pushed or there was no memory for it
-pub All-pushed : {X : Type 0} (P : X → Type 0) (b : Bool) (was now : List X) (x : X) → now ≡ cond b (was ++ x ∷ []) was → All P was → P x → All P now
-All-pushed P true was now x is all one = subst (λ xs. All P xs) (sym is) (All-push P was x all one)
-All-pushed P false was now x is all one = subst (λ xs. All P xs) (sym is) all
+-- the bound of a walk stays, or becomes the path that was found
+pub bound_kept : {Z : Type 0} (after bound next : List ℕ) (least : Option (String Z)) → path_cmp after bound ≢ Greater → IfSome least (λ path. path_cmp bound (string_bytes path) ≡ Less)
+    → (next ≡ bound) ⊎ IsSomeAnd least (λ path. string_bytes path ≡ next) → path_cmp after next ≢ Greater
+bound_kept after bound next least h above (inl same) = subst (λ b. path_cmp after b ≢ Greater) (sym same) h
+bound_kept after bound next None h above (inr is) = absurd is
+bound_kept after bound next (Some path) h above (inr is) =
+    subst (λ b. path_cmp after b ≢ Greater) is (less_not_greater after (string_bytes path) (above_bound after bound (string_bytes path) h above))
+
+-- the file that a walk ends with is greater than the path that it began after
+pub found_file : {Z : Type 0} (after bound : List ℕ) (least found : Option (String Z)) → path_cmp after bound ≢ Greater → IfSome least (λ path. path_cmp bound (string_bytes path) ≡ Less)
+    → IfSome (option_map string_bytes found) (λ path. IsFilePath path × (option_map string_bytes least ≡ Some path)) → IfSome found (λ path. IsFileAbove after (string_bytes path))
+found_file after bound least None h above is = tt
+found_file after bound None (Some file) h above is = cc is.1
+found_file after bound (Some path) (Some file) h above is =
+    let same : string_bytes path ≡ string_bytes file = cc is.1 in
+    record { above = above_bound after bound (string_bytes file) h (subst (λ p. path_cmp bound p ≡ Less) same above); file = is.0 }
+
+-- a fact of each element, where one more was added or none
+pub All-added : {X : Type 0} (P : X → Type 0) (was now : List X) (more : Option X) → (more ≡ None → now ≡ was) → IfSome more (λ x. now ≡ was ++ x ∷ []) → IfSome more P → All P was → All P now
+All-added P was now None same added one all = subst (λ xs. All P xs) (sym (same refl)) all
+All-added P was now (Some x) same added one all = subst (λ xs. All P xs) (sym added) (All-push P was x all one)
 
 -- a whole list that was written over in place
 pub written_over : {X : Type 0} (written was : List X) (n : ℕ) → length written ≡ n → take n (written ++ drop (length written) was) ≡ written

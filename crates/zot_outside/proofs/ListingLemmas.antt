@@ -14,7 +14,7 @@ use Rattle.std.specs.FinMap.Entries.{below_all}
 use Rattle.std.specs.List.{list_any}
 use Rattle.std.specs.Ordering.{eq_by_cmp, is_lt, ordering_reverse}
 use Rattle.zot_maps.proofs.Maps.{byte_order, same_key, tied_keys}
-use Rattle.zot_outside.specs.Objects.{Follows, IsLast, IsNext, Objects, path_cmp, paths_behind}
+use Rattle.zot_outside.specs.Objects.{Follows, IsLast, IsNext, Objects, path_cmp, paths_after}
 
 abbrev Entries : Type 0
 Entries = List (List ℕ × List ℕ)
@@ -24,8 +24,8 @@ abbrev is_below : List ℕ → List ℕ → Bool
 is_below path other = is_lt (path_cmp path other)
 
 -- the paths among entries that are greater than a path
-abbrev behind : List ℕ → Entries → List (List ℕ)
-behind after es = filter (is_below after) (each (λ e. e.0) es)
+abbrev greater_than : List ℕ → Entries → List (List ℕ)
+greater_than after es = filter (is_below after) (each (λ e. e.0) es)
 
 holds : (b : Bool) → T b → b ≡ true
 holds true h = refl
@@ -64,11 +64,11 @@ found_above path q (e ∷ es) h held =
     ] refl held
 
 -- all the paths are greater
-all_behind : (after : List ℕ) (es : Entries) → below_all path_cmp after es ≡ true → behind after es ≡ each (λ e. e.0) es
-all_behind after [] h = refl
-all_behind after (e ∷ es) h =
+all_greater : (after : List ℕ) (es : Entries) → below_all path_cmp after es ≡ true → greater_than after es ≡ each (λ e. e.0) es
+all_greater after [] h = refl
+all_greater after (e ∷ es) h =
     let parts = and_parts (is_below after e.0) (below_all path_cmp after es) h in
-    cond-true (is_below after e.0) (e.0 ∷ behind after es) (behind after es) parts.0 ∙ ap (λ ks. e.0 ∷ ks) (all_behind after es parts.1)
+    cond-true (is_below after e.0) (e.0 ∷ greater_than after es) (greater_than after es) parts.0 ∙ ap (λ ks. e.0 ∷ ks) (all_greater after es parts.1)
 
 -- an entry is found by its path
 found_first : (e : List ℕ × List ℕ) (es : Entries) → IsSome (find path_cmp e.0 (e ∷ es))
@@ -86,50 +86,50 @@ found_cases q e es h =
       | false ↦ λ free k. inr k
     ] refl h
 
--- the least path that is greater stands at the front of those that are greater, and behind it those that are greater than it
-next_behind : (after path : List ℕ) (es : Entries) → is_sorted path_cmp es ≡ true → IsSome (find path_cmp path es) → is_below after path ≡ true
-    → ((other : List ℕ) → IsSome (find path_cmp other es) → is_below after other ≡ true → is_below other path ≡ false) → behind after es ≡ path ∷ behind path es
-next_behind after path [] sorted held above least = cc held
-next_behind after path (e ∷ es) sorted held above least =
+-- the least path that is greater comes first of those that are greater, and then come those that are greater than it
+next_greater : (after path : List ℕ) (es : Entries) → is_sorted path_cmp es ≡ true → IsSome (find path_cmp path es) → is_below after path ≡ true
+    → ((other : List ℕ) → IsSome (find path_cmp other es) → is_below after other ≡ true → is_below other path ≡ false) → greater_than after es ≡ path ∷ greater_than path es
+next_greater after path [] sorted held above least = cc held
+next_greater after path (e ∷ es) sorted held above least =
     let parts = and_parts (below_all path_cmp e.0 es) (is_sorted path_cmp es) sorted in
-    elim (is_below after e.0) as (λ b. is_below after e.0 ≡ b → behind after (e ∷ es) ≡ path ∷ behind path (e ∷ es)) [
+    elim (is_below after e.0) as (λ b. is_below after e.0 ≡ b → greater_than after (e ∷ es) ≡ path ∷ greater_than path (e ∷ es)) [
       | true ↦ λ first.
           let same : path ≡ e.0 = elim (found_cases path e es held) [ inl is ↦ is | inr later ↦ cc (sym (found_above e.0 path es parts.0 later) ∙ least e.0 (found_first e es) first) ] in
-          cond-true (is_below after e.0) (e.0 ∷ behind after es) (behind after es) first
-          ∙ ap (λ ks. e.0 ∷ ks) (all_behind after es (below_all_trans after e.0 es first parts.0) ∙ sym (all_behind e.0 es parts.0)
-          ∙ sym (cond-false (is_below e.0 e.0) (e.0 ∷ behind e.0 es) (behind e.0 es) (irreflexive e.0)))
-          ∙ ap (λ p. p ∷ behind p (e ∷ es)) (sym same)
+          cond-true (is_below after e.0) (e.0 ∷ greater_than after es) (greater_than after es) first
+          ∙ ap (λ ks. e.0 ∷ ks) (all_greater after es (below_all_trans after e.0 es first parts.0) ∙ sym (all_greater e.0 es parts.0)
+          ∙ sym (cond-false (is_below e.0 e.0) (e.0 ∷ greater_than e.0 es) (greater_than e.0 es) (irreflexive e.0)))
+          ∙ ap (λ p. p ∷ greater_than p (e ∷ es)) (sym same)
       | false ↦ λ skipped.
           let later : IsSome (find path_cmp path es) = elim (found_cases path e es held) [ inl is ↦ cc (sym (ap (is_below after) is ∙ skipped) ∙ above) | inr k ↦ k ] in
-          cond-false (is_below after e.0) (e.0 ∷ behind after es) (behind after es) skipped
-          ∙ next_behind after path es parts.1 later above (λ other k. least other (found_later other e es k))
-          ∙ ap (λ ks. path ∷ ks) (sym (cond-false (is_below path e.0) (e.0 ∷ behind path es) (behind path es) (asymmetric e.0 path (found_above e.0 path es parts.0 later))))
+          cond-false (is_below after e.0) (e.0 ∷ greater_than after es) (greater_than after es) skipped
+          ∙ next_greater after path es parts.1 later above (λ other k. least other (found_later other e es k))
+          ∙ ap (λ ks. path ∷ ks) (sym (cond-false (is_below path e.0) (e.0 ∷ greater_than path es) (greater_than path es) (asymmetric e.0 path (found_above e.0 path es parts.0 later))))
     ] refl
 
 -- nothing is greater
-none_behind : (after : List ℕ) (es : Entries) → ((other : List ℕ) → IsSome (find path_cmp other es) → is_below after other ≡ false) → behind after es ≡ []
-none_behind after [] last = refl
-none_behind after (e ∷ es) last =
-    cond-false (is_below after e.0) (e.0 ∷ behind after es) (behind after es) (last e.0 (found_first e es)) ∙ none_behind after es (λ other k. last other (found_later other e es k))
+none_greater : (after : List ℕ) (es : Entries) → ((other : List ℕ) → IsSome (find path_cmp other es) → is_below after other ≡ false) → greater_than after es ≡ []
+none_greater after [] last = refl
+none_greater after (e ∷ es) last =
+    cond-false (is_below after e.0) (e.0 ∷ greater_than after es) (greater_than after es) (last e.0 (found_first e es)) ∙ none_greater after es (λ other k. last other (found_later other e es k))
 
 -- a path that is greater and one that isn't are two
 apart_from : (after q k : List ℕ) → is_below after q ≡ true → is_below after k ≡ false → eq_by_cmp path_cmp q k ≡ false
 apart_from after q k h left = false_from_ne_true _ (λ tied. true≢false (sym h ∙ ap (is_below after) (tied_keys byte_order q k tied) ∙ left))
 
 -- a path that stands among those that are greater is greater
-above_behind : (after q : List ℕ) (ks : List (List ℕ)) → list_any (eq_by_cmp path_cmp q) (filter (is_below after) ks) ≡ true → is_below after q ≡ true
-above_behind after q [] h = cc h
-above_behind after q (k ∷ ks) h =
+is_greater : (after q : List ℕ) (ks : List (List ℕ)) → list_any (eq_by_cmp path_cmp q) (filter (is_below after) ks) ≡ true → is_below after q ≡ true
+is_greater after q [] h = cc h
+is_greater after q (k ∷ ks) h =
     elim (is_below after k) as (λ b. is_below after k ≡ b → list_any (eq_by_cmp path_cmp q) (cond b (k ∷ filter (is_below after) ks) (filter (is_below after) ks)) ≡ true → is_below after q ≡ true) [
-      | true ↦ λ kept any. elim (or_cases (eq_by_cmp path_cmp q k) (list_any (eq_by_cmp path_cmp q) (filter (is_below after) ks)) any) [ inl tied ↦ ap (is_below after) (tied_keys byte_order q k tied) ∙ kept | inr later ↦ above_behind after q ks later ]
-      | false ↦ λ left any. above_behind after q ks any
+      | true ↦ λ kept any. elim (or_cases (eq_by_cmp path_cmp q k) (list_any (eq_by_cmp path_cmp q) (filter (is_below after) ks)) any) [ inl tied ↦ ap (is_below after) (tied_keys byte_order q k tied) ∙ kept | inr later ↦ is_greater after q ks later ]
+      | false ↦ λ left any. is_greater after q ks any
     ] refl h
 
 -- whether a path stands among those that are greater
-listed_behind : (after q : List ℕ) (ks : List (List ℕ)) → is_below after q ≡ true → list_any (eq_by_cmp path_cmp q) (filter (is_below after) ks) ≡ list_any (eq_by_cmp path_cmp q) ks
-listed_behind after q [] h = refl
-listed_behind after q (k ∷ ks) h =
-    let rest = listed_behind after q ks h in
+stays_listed : (after q : List ℕ) (ks : List (List ℕ)) → is_below after q ≡ true → list_any (eq_by_cmp path_cmp q) (filter (is_below after) ks) ≡ list_any (eq_by_cmp path_cmp q) ks
+stays_listed after q [] h = refl
+stays_listed after q (k ∷ ks) h =
+    let rest = stays_listed after q ks h in
     elim (is_below after k) as (λ b. is_below after k ≡ b → list_any (eq_by_cmp path_cmp q) (cond b (k ∷ filter (is_below after) ks) (filter (is_below after) ks)) ≡ (eq_by_cmp path_cmp q k || list_any (eq_by_cmp path_cmp q) ks)) [
       | true ↦ λ kept. ap (λ b. eq_by_cmp path_cmp q k || b) rest
       | false ↦ λ left. rest ∙ sym (ap (λ b. b || list_any (eq_by_cmp path_cmp q) ks) (apart_from after q k h left))
@@ -144,43 +144,43 @@ not_less Less h = absurd (h refl)
 not_less Equal h = refl
 not_less Greater h = refl
 
--- the next path stands at the front of those that are greater, and behind it those that are greater than it
-pub paths_behind-next : (objects : Objects) (after path : List ℕ) → IsNext objects after path → paths_behind objects after ≡ path ∷ paths_behind objects path
-paths_behind-next objects after path h =
-    next_behind after path (map.entries objects) (holds _ (entries_sorted objects)) (sym (held_found objects path) ∙ h.held) (ap is_lt h.above)
+-- the next path comes first of those that are greater, and then come those that are greater than it
+pub paths_after-next : (objects : Objects) (after path : List ℕ) → IsNext objects after path → paths_after objects after ≡ path ∷ paths_after objects path
+paths_after-next objects after path h =
+    next_greater after path (map.entries objects) (holds _ (entries_sorted objects)) (sym (held_found objects path) ∙ h.held) (ap is_lt h.above)
     (λ other held above. not_less _ (h.least other (held_found objects other ∙ held) (less _ above)))
 
 -- where no path is greater, there are none
-pub paths_behind-last : (objects : Objects) (after : List ℕ) → IsLast objects after → paths_behind objects after ≡ []
-paths_behind-last objects after h = none_behind after (map.entries objects) (λ other held. not_less _ (h other (held_found objects other ∙ held)))
+pub paths_after-last : (objects : Objects) (after : List ℕ) → IsLast objects after → paths_after objects after ≡ []
+paths_after-last objects after h = none_greater after (map.entries objects) (λ other held. not_less _ (h other (held_found objects other ∙ held)))
 
 -- there are at most as many as there are objects
-pub length-paths_behind : (objects : Objects) (after : List ℕ) → length (paths_behind objects after) ≤ map.len objects
-length-paths_behind objects after =
+pub length-paths_after : (objects : Objects) (after : List ℕ) → length (paths_after objects after) ≤ map.len objects
+length-paths_after objects after =
     let all = length-filter_both (is_below after) (λ k. not (is_below after k)) (λ _. refl) (map.keys objects) in
     let few = length-map (map.entries objects) (λ e. e.0) in
     let many = len-entries objects in omega arith
 
 -- the greater ones are those that have an object and are greater
-pub held_behind : (objects : Objects) (after path : List ℕ) → IsSome (map.get objects path) → path_cmp after path ≡ Less → Contains (paths_behind objects after) path
-held_behind objects after path held above =
-    Contains-from_any (tied_keys byte_order) path (paths_behind objects after)
-    (listed_behind after path (map.keys objects) (ap is_lt above) ∙ sym (contains_key-keys objects path) ∙ held)
+pub held_after : (objects : Objects) (after path : List ℕ) → IsSome (map.get objects path) → path_cmp after path ≡ Less → Contains (paths_after objects after) path
+held_after objects after path held above =
+    Contains-from_any (tied_keys byte_order) path (paths_after objects after)
+    (stays_listed after path (map.keys objects) (ap is_lt above) ∙ sym (contains_key-keys objects path) ∙ held)
 
-pub behind_held : (objects : Objects) (after path : List ℕ) → Contains (paths_behind objects after) path → IsSome (map.get objects path) × (path_cmp after path ≡ Less)
-behind_held objects after path listed =
-    let any = list_any-from_Contains (eq_by_cmp_equiv byte_order.total) path (paths_behind objects after) listed in
-    let above = above_behind after path (map.keys objects) any in
-    (contains_key-keys objects path ∙ sym (listed_behind after path (map.keys objects) above) ∙ any, less _ above)
+pub after_held : (objects : Objects) (after path : List ℕ) → Contains (paths_after objects after) path → IsSome (map.get objects path) × (path_cmp after path ≡ Less)
+after_held objects after path listed =
+    let any = list_any-from_Contains (eq_by_cmp_equiv byte_order.total) path (paths_after objects after) listed in
+    let above = is_greater after path (map.keys objects) any in
+    (contains_key-keys objects path ∙ sym (stays_listed after path (map.keys objects) above) ∙ any, less _ above)
 
--- what a listing finds behind a path is determined
+-- which path is next is determined
 pub one_next : (objects : Objects) (after one other : List ℕ) → IsNext objects after one → IsNext objects after other → one ≡ other
 one_next objects after one other h k =
-    let same : one ∷ paths_behind objects one ≡ other ∷ paths_behind objects other = sym (paths_behind-next objects after one h) ∙ paths_behind-next objects after other k in
+    let same : one ∷ paths_after objects one ≡ other ∷ paths_after objects other = sym (paths_after-next objects after one h) ∙ paths_after-next objects after other k in
     cc same
 
--- what a listing finds, as the paths that are greater
-pub paths_behind-follows : (objects : Objects) (after : List ℕ) (found : Option (List ℕ)) → Follows (Some objects) after found
-    → MatchOption found (paths_behind objects after ≡ []) (λ path. paths_behind objects after ≡ path ∷ paths_behind objects path)
-paths_behind-follows objects after None h = paths_behind-last objects after h
-paths_behind-follows objects after (Some path) h = paths_behind-next objects after path h
+-- what a listing finds, by the paths that are greater
+pub paths_after-follows : (objects : Objects) (after : List ℕ) (found : Option (List ℕ)) → Follows (Some objects) after found
+    → MatchOption found (paths_after objects after ≡ []) (λ path. paths_after objects after ≡ path ∷ paths_after objects path)
+paths_after-follows objects after None h = paths_after-last objects after h
+paths_after-follows objects after (Some path) h = paths_after-next objects after path h

@@ -11,7 +11,7 @@ pub Appends-nil : (held : Option (List ℕ)) → Appends held [] held
 Appends-nil None = tt
 Appends-nil (Some held) = ap Some (sym (append-nil held))
 
--- two pieces written one behind the other
+-- two pieces written one after the other
 pub Appends-append : (before mid after : Option (List ℕ)) (first second : List ℕ) → Appends before first mid → Appends mid second after → Appends before (first ++ second) after
 Appends-append None mid after first second h k = tt
 Appends-append (Some before) None after first second h k = cc h
@@ -23,7 +23,7 @@ pub Takes-nil : (left : Option (List ℕ)) → Takes left [] left
 Takes-nil None = tt
 Takes-nil (Some left) = (left, refl, refl)
 
--- two pieces taken one behind the other
+-- two pieces taken one after the other
 pub Takes-append : (before mid after : Option (List ℕ)) (first second : List ℕ) → Takes before first mid → Takes mid second after → Takes before (first ++ second) after
 Takes-append None mid after first second h k = tt
 Takes-append (Some before) None after first second h k = cc h.2
@@ -54,7 +54,7 @@ Appends-lost before after piece written (Ok n) h lost = tt
 Appends-lost before after piece (Ok n) (Err e) h lost = subst (λ k. Appends before (take k piece) after) lost (Appends-known before after (take n piece) h)
 Appends-lost before after piece (Err d) (Err e) h lost = Appends-kept before after h
 
--- a buffer whose first n bytes are filled, and of whose others the next m were read
+-- in a buffer whose first n bytes are filled, the next m were read
 take_filled : (buf part : List ℕ) (n m : ℕ) → n ≤ length buf → m ≤ length part → take (n + m) (put_mid n (length buf - n) buf part) ≡ take n buf ++ take m part
 take_filled buf part n m within few =
     ap (λ k. take (k + m) (put_mid n (length buf - n) buf part)) (sym (length-take-le n buf within))
@@ -66,7 +66,7 @@ pub Takes-fill : (before mid after : Option (List ℕ)) (buf part : List ℕ) (n
 Takes-fill before mid after buf part n m within few h k =
     subst (λ bytes. Takes before bytes after) (sym (take_filled buf part n m within few)) (Takes-append before mid after (take n buf) (take m part) h (Takes-consumed mid after (take m part) k))
 
--- what is left of a text behind the bytes that were written
+-- what is left of a text after the bytes that were written
 pub written_more : (bytes part rest : List ℕ) (n : ℕ) → bytes ≡ part ++ rest → bytes ≡ (part ++ take n rest) ++ take (length rest - n) (drop n rest)
 written_more bytes part rest n h =
     let left = length-drop n rest in

@@ -1,4 +1,4 @@
--- Counts of faults: what a call of the outside says of its object's count.
+-- Counts of faults: what a call of the outside says of the count of its object.
 use Rattle.std.specs.Prelude.{◌≡◌, ℕ, ◌+◌, ◌-◌, ◌^◌, ◌≤◌, min, ⊤, Result, Ok, Err, OnOk, OnErr}
 use Rattle.zot_outside.specs.declared.stores.store_error.StoreError.{StoreError}
 use Rattle.zot_outside.specs.declared.stores.store_error.StoreError.TheVariants.{Missing, Failed, NoMemory}
@@ -7,7 +7,7 @@ use Rattle.zot_outside.specs.declared.stores.store_error.StoreError.TheVariants.
 abbrev pub Rose : ℕ → ℕ → Type 0
 Rose before after = min (before + 1) (2 ^ 64 - 1) ≤ after
 
--- what a call says of its object's count of faults: it never falls, it rose where the call failed, and it stays where the call didn't
+-- the count of faults never falls, rose where the call failed, and stays where it didn't
 pub record HasCause {T E : Type 0} (before after : ℕ) (result : Result T E) : Type 0 where
   pub later : before ≤ after
   pub failed : OnErr result (Rose before after)
@@ -20,7 +20,7 @@ OnFailed (Err Missing) P = ⊤
 OnFailed (Err Failed) P = P
 OnFailed (Err NoMemory) P = ⊤
 
--- a fact for a call of a store that didn't fail, though it may have found nothing or no memory
+-- a fact for every other answer of a call of a store
 abbrev pub UnlessFailed : {T : Type 0} → Result T StoreError → Type 0 → Type 0
 UnlessFailed (Ok x) P = P
 UnlessFailed (Err Missing) P = P
@@ -34,7 +34,7 @@ OnMissing (Err Missing) P = P
 OnMissing (Err Failed) P = ⊤
 OnMissing (Err NoMemory) P = ⊤
 
--- what a call of a store says of the count of faults: it never falls, it rose where the call failed, and it stays where the call didn't
+-- the same of a call of a store
 pub record HasStoreCause {T : Type 0} (before after : ℕ) (result : Result T StoreError) : Type 0 where
   pub later : before ≤ after
   pub failed : OnFailed result (Rose before after)

@@ -1,8 +1,10 @@
 pub mod Accepted
+pub mod Answers
 pub mod Faults
 pub mod Listing
 pub mod Moments
 pub mod Objects
 pub mod Paths
 pub mod Place
+pub mod Spots
 pub mod Streams

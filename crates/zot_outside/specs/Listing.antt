@@ -1,18 +1,18 @@
--- What a folder's listing has, and what a walk finds in it.
+-- What a folder's listing has, and what is found in it.
 use Rattle.std.specs.Prelude.{◌≡◌, ◌≢◌, ℕ, ◌⊎◌, List, [], ◌∷◌, ◌++◌, All, Contains, Option, MatchOption}
 use Rattle.std.specs.declared.cmp.Ordering.TheVariants.{Less}
 use Rattle.zot_outside.specs.Objects.{path_cmp}
 
--- the path of a name in a folder, which is the root where its path is empty
+-- the path of a name in a folder; an empty path is the root's
 abbrev pub child_path : List ℕ → List ℕ → List ℕ
 child_path [] name = name
 child_path (b ∷ bs) name = (b ∷ bs) ++ 47 ∷ name
 
--- a path is that of a name in a folder, or this with a slash behind it
+-- a path is that of a name in a folder, with a slash after it or none
 abbrev pub IsEntry : List ℕ → List ℕ → List ℕ → Type 0
 IsEntry folder name path = (path ≡ child_path folder name) ⊎ (path ≡ child_path folder name ++ 47 ∷ [])
 
--- a path is that of a folder's file, or of a folder in it with a slash behind: its name has no slash
+-- a path is that of a file in a folder, or of a folder in it, which ends with a slash; its name has none
 abbrev pub IsChild : List ℕ → List ℕ → Type 0
 IsChild folder path = (name : List ℕ) × All (λ b. b ≢ 47) name × IsEntry folder name path
 
@@ -25,20 +25,16 @@ pub record IsFileAbove (bound path : List ℕ) : Type 0 where
   pub above : path_cmp bound path ≡ Less
   pub file : IsFilePath path
 
--- a folder is another one or lies below it
-abbrev pub LiesIn : List ℕ → List ℕ → Type 0
-LiesIn above folder = (above ≡ []) ⊎ (folder ≡ above) ⊎ ((rest : List ℕ) × (folder ≡ above ++ 47 ∷ rest))
-
--- a path is the least of some that is greater than a bound
+-- a path is the least of these that is greater than a bound
 pub record IsLeastAbove (paths : List (List ℕ)) (bound path : List ℕ) : Type 0 where
   pub listed : Contains paths path
   pub above : path_cmp bound path ≡ Less
   pub least : All (λ other. path_cmp bound other ≡ Less → path_cmp other path ≢ Less) paths
 
--- no path is greater than a bound
+-- none of these paths is greater than a bound
 abbrev pub NoneAbove : List (List ℕ) → List ℕ → Type 0
 NoneAbove paths bound = All (λ other. path_cmp bound other ≢ Less) paths
 
--- the least of some paths that is greater than a bound, or none where none is
+-- the least of these paths that is greater than a bound was found, or there is none
 abbrev pub FindsAbove : List (List ℕ) → List ℕ → Option (List ℕ) → Type 0
 FindsAbove paths bound found = MatchOption found (NoneAbove paths bound) (λ path. IsLeastAbove paths bound path)

@@ -1,4 +1,4 @@
--- Which paths a folder keeps objects under, and the names of their files.
+-- Which paths a folder keeps objects under.
 use Rattle.std.specs.Prelude.{ℕ, Bool, not, ◌&&◌, ◌==◌, nat_lt, List, length, slice_index}
 use Rattle.std.specs.List.{list_all, list_any, slice_split}
 

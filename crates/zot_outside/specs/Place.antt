@@ -3,7 +3,7 @@ use Rattle.std.specs.Prelude.{◌≡◌, ℕ, true, List, ◌∷◌, ◌++◌, s
 use Rattle.zot_outside.specs.declared.stores.place.Place.{Place}
 use Rattle.zot_outside.specs.Paths.{is_object_path}
 
--- the file of a path's object below a root, and beside it the new one, whose name begins with a dot, so that no object has it
+-- the file of a path's object below a root, and beside it a fresh one, whose name begins with a dot, so that it is no object's
 pub record IsPlace (root path : List ℕ) (place : Place) : Type 0 where
   pub object : is_object_path path ≡ true
   pub below : string_bytes place.file ≡ root ++ 47 ∷ path

@@ -1,5 +1,5 @@
-//! What a failing call of the outside answers.
+//! What a call of the outside answers that failed.
 
-/// A call of the outside failed. The count of faults of the object that answers it has risen in that call.
-#[derive(Clone, Copy, Debug, PartialEq, Eq)]
+/// The call failed, and the count of faults of the object that it was made on rose.
+#[derive(Clone, Copy, PartialEq)]
 pub struct Failed;

@@ -1,5 +1,6 @@
 //! Where objects are kept by their paths.
 
+mod answers;
 mod files;
 mod folder_store;
 mod laws;
@@ -8,6 +9,7 @@ mod parts;
 mod paths;
 mod place;
 mod root;
+mod spot;
 mod store;
 mod store_error;
 mod walk;
@@ -19,4 +21,4 @@ pub use self::laws::{
 };
 pub use self::parts::Parts;
 pub use self::store::Store;
-pub use self::store_error::StoreError;
+pub use self::store_error::{StoreError, StoreResult};

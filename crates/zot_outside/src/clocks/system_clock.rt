@@ -5,7 +5,7 @@ use crate::clocks::Clock;
 use std::rt;
 use std::time::{SystemTime, UNIX_EPOCH};
 
-/// The system's clock, in seconds since the start of 1970. It tells no moment. It has no field but the runtime that it asks.
+/// The system's clock, in seconds since the start of 1970. It doesn't tell its moment.
 #[derive(Drop)]
 pub struct SystemClock<R> {
     rt: R,
@@ -25,7 +25,7 @@ impl<R: rt::Clock> Clock for SystemClock<R> {
 
     ghost moment = { λ _. None };
 
-    // A clock that can't be read, or that stands before 1970, answers 0: then nothing is older than it was.
+    // A clock that can't be read, or is before 1970, answers 0: then nothing looks older than it is.
     fn now(&mut self) -> u64 {
         match SystemTime::now(&self.rt) {
             Ok(time) => time

@@ -1,10 +1,10 @@
-//! What a gate is told.
+//! What a gate hears.
 
 /// What is about to be done.
-#[derive(Clone, Copy, Debug, PartialEq, Eq)]
+#[derive(Clone, Copy)]
 pub enum Point {
-    /// A request is answered at the member of this number.
+    /// The member of this number is about to answer a request.
     Request(u32),
-    /// The first bytes are read of an upstream's content. The number is the digest's first 8 bytes, read big-endian.
+    /// An upstream's content is about to be read. The number is the first 8 bytes of its digest, read big-endian.
     Fetch(u64),
 }

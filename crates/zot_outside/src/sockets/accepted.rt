@@ -3,7 +3,7 @@
 /// What a listener found.
 #[derive(Drop)]
 pub enum Accepted<C, K> {
-    /// A connection: the number of the member that was asked, and the two ends.
+    /// A connection: the number of its member, and its two ends.
     Stream(u32, C, K),
     /// Nothing was waiting.
     Quiet,

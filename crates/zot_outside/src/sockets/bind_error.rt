@@ -5,7 +5,7 @@ use thiserror::Error;
 /// Why the members' addresses weren't bound.
 #[derive(Clone, Copy, Debug, PartialEq, Eq, Error)]
 pub enum BindError {
-    /// An address is none, or couldn't be bound.
+    /// A text isn't an address, or the address couldn't be bound.
     #[error("an address couldn't be bound")]
     Failed,
     /// Memory ran out.

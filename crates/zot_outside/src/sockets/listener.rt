@@ -17,13 +17,13 @@ pub trait Listener {
     /// The end of a connection that bytes go to.
     type K: Sink;
 
-    // The members' numbers are below this one.
+    // How many members there are: their numbers are below this.
     ghost members: { Self → ℕ };
 
-    // How many calls failed so far. The count stands still at the end of 64 bits.
+    // How many calls have failed. The count stops at 2^64 - 1.
     ghost faults: { Self → ℕ };
 
-    /// The next connection, or `Quiet` where a look found none waiting.
+    /// The next connection, or `Quiet` if a look found none waiting.
     fn accept(&mut self) -> Result<Accepted<Self::C, Self::K>, Failed>
         ensures cause { HasCause (faults self.old) (faults self.new) result }
         ensures member { IfOk result (λ accepted. IfStream accepted (λ member. member < members self.old)) }

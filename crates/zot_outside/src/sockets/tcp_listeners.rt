@@ -12,7 +12,7 @@ use std::net::{Net, TcpListener, TcpStream};
 use std::time::Duration;
 use std::{io, rt, thread};
 
-/// How many milliseconds a look rests that found nothing, so that looking again and again takes no processor.
+/// How many milliseconds a look rests that found nothing, so that looking again doesn't take a whole processor.
 const REST: u64 = 10;
 
 /// The sockets at which the members listen. It counts each failed call.
@@ -71,7 +71,7 @@ impl<R> TcpListeners<R> {
         }
     }
 
-    // What a look answers: a connection that it found, `Quiet` where it found none, or a fault where it failed. The next look begins behind the member whose connection it was.
+    // What a call answers for what a look found: a connection, nothing or an error. The next look begins after the member of this connection.
     fn found(
         &mut self,
         looked: io::Result<Option<(u32, TcpStream)>>,
@@ -139,7 +139,7 @@ impl<R: rt::Clock> Listener for TcpListeners<R> {
     }
 }
 
-// Looks at each socket once, beginning with that of a member, for a connection that waits.
+// Looks once at each socket for a connection that waits, from that of the member `first` on.
 fn look(listeners: &[TcpListener], first: usize) -> io::Result<Option<(u32, TcpStream)>>
     requires { length listeners.now < 2 ^ 32 }
     ensures { IfOk result (λ found. IfSome found (λ one. one.0 < length listeners.now)) }
@@ -154,7 +154,7 @@ fn look(listeners: &[TcpListener], first: usize) -> io::Result<Option<(u32, TcpS
     Ok(None)
 }
 
-// The connection that waits at a socket. One that its peer has ended already isn't there.
+// The connection that waits at a socket, or `None` if none waits. One that its peer has ended already counts as none.
 fn take(listener: &TcpListener) -> io::Result<Option<TcpStream>> {
     match listener.accept() {
         Ok((stream, _)) => Ok(Some(stream)),

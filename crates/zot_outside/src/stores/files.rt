@@ -1,59 +1,41 @@
 //! The files of a folder's objects.
-ghost use Rattle.std.specs.Prelude.{◌≡◌, ◌<◌, ◌≤◌, ◌↔◌, ◌⊎◌, IfOk, IfSome, IsTrue, Ok, Some, length, take};
-ghost use Rattle.std.specs.declared.io.ErrorKind.TheVariants.{InvalidFilename, NotADirectory, NotFound};
+ghost use Rattle.std.specs.Prelude.{◌≡◌, ◌<◌, ◌≤◌, IfOk, IfSome, length, take};
 ghost use Rattle.zot_outside.specs.Streams.{IsOver, Takes};
 
+use crate::stores::answers::present;
 use crate::stores::place::Place;
 use std::fs::{Files, OpenFile, OpenOptions};
-use std::io::{ErrorKind, Read, Seek, SeekFrom, Write};
+use std::io::{Read, Seek, SeekFrom, Write};
 use std::{fs, io};
 
-/// How many bytes a file has, or `None` where there is none. A folder is no file.
-pub fn file_size(rt: &impl Files, file: &str) -> io::Result<Option<u64>> {
+/// How many bytes a file has, or `None` if there is no file. A folder is none.
+pub fn file_size<R: Files>(rt: &R, file: &str) -> io::Result<Option<u64>> {
     match present(fs::metadata(rt, file))? {
         Some(found) if found.is_file() => Ok(Some(found.len())),
         _ => Ok(None),
     }
 }
 
-/// What was looked up, or `None` where there is nothing.
-pub fn present<T>(found: io::Result<T>) -> io::Result<Option<T>>
-    ensures found { IfOk found (λ x. result ≡ Ok (Some x)) }
-    ensures result { IfOk result (λ one. IfSome one (λ x. found ≡ Ok x)) }
-{
-    match found {
-        Ok(found) => Ok(Some(found)),
-        Err(error) if is_absent(error.kind()) => Ok(None),
-        Err(error) => Err(error),
-    }
-}
-
-// Whether a look-up failed for there being nothing: no such name, a file where a folder should be, or a name that no file can have.
-fn is_absent(kind: ErrorKind) -> bool
-    ensures { IsTrue result ↔ ((kind ≡ NotFound) ⊎ (kind ≡ NotADirectory) ⊎ (kind ≡ InvalidFilename)) }
-{
-    matches!(
-        kind,
-        ErrorKind::NotFound | ErrorKind::NotADirectory | ErrorKind::InvalidFilename
-    )
-}
-
-/// Fills a buffer from a place of a file on, as far as the file reaches, or answers `None` where there is no file.
+/// Fills a buffer with the bytes of a file from a place on, as far as the file reaches, and answers how many there are, or `None` if there is no file.
 pub fn read_file<R: Files>(rt: &R, file: &str, at: u64, buf: &mut [u8]) -> io::Result<Option<usize>>
     ensures { IfOk result (λ found. IfSome found (λ n. n ≤ length buf.new)) }
 {
     match file_size(rt, file)? {
-        Some(size) if at < size => {
-            let mut source = fs::open(rt, file)?;
-            source.seek(SeekFrom::Start(at))?;
-            Ok(Some(fill(&mut source, buf)?))
-        }
+        Some(size) if at < size => Ok(Some(read_from(&mut fs::open(rt, file)?, at, buf)?)),
         Some(_) => Ok(Some(0)),
         None => Ok(None),
     }
 }
 
-// Fills a buffer as far as a reader reaches, and answers how many bytes these are: fewer than the buffer has only where nothing is left.
+// Fills a buffer from a place of a reader on, as far as the reader reaches, and answers how many bytes there are.
+fn read_from<S: Read + Seek>(source: &mut S, at: u64, buf: &mut [u8]) -> io::Result<usize>
+    ensures { IfOk result (λ n. n ≤ length buf.new) }
+{
+    source.seek(SeekFrom::Start(at))?;
+    fill(source, buf)
+}
+
+// Fills a buffer as far as a reader reaches, and answers how many bytes there are. Where they don't fill the buffer, nothing is left.
 fn fill<S: Read>(source: &mut S, buf: &mut [u8]) -> io::Result<usize>
     ensures within { IfOk result (λ n. n ≤ length buf.new) }
     ensures room { length buf.new ≡ length buf.old }
@@ -71,14 +53,14 @@ fn fill<S: Read>(source: &mut S, buf: &mut [u8]) -> io::Result<usize>
     Ok(n)
 }
 
-/// Sets a file to these bytes: writes them to a new one, which it then renames over it, so that the file is as before or has them all, as far as the system gives that. Makes the folders that are wanted.
+/// Sets a file to these bytes, and makes its folder. It writes a fresh file and renames it, so that the file is as before or has all the bytes, as far as the system gives that.
 pub fn write_file<R: Files>(rt: &R, place: &Place, bytes: &[u8]) -> io::Result<()> {
     fs::create_dir_all(rt, place.folder.as_str())?;
     let written = fs::write(rt, place.fresh.as_str(), bytes);
     settle(rt, place, written)
 }
 
-/// Sets a file to the bytes of another, in the same way.
+/// Sets a file to the bytes of another, in the same way, or answers `None` if there is no other.
 pub fn copy_file<R: Files>(rt: &R, source: &Place, place: &Place) -> io::Result<Option<()>> {
     if file_size(rt, source.file.as_str())?.is_none() {
         return Ok(None);
@@ -89,7 +71,7 @@ pub fn copy_file<R: Files>(rt: &R, source: &Place, place: &Place) -> io::Result<
     Ok(Some(()))
 }
 
-// Renames the new file over the old one where it was written, and else removes it.
+// Renames the fresh file if it was written, else removes it.
 fn settle<R: Files>(rt: &R, place: &Place, written: io::Result<()>) -> io::Result<()> {
     let settled = match written {
         Ok(()) => publish(rt, place),
@@ -101,14 +83,14 @@ fn settle<R: Files>(rt: &R, place: &Place, written: io::Result<()>) -> io::Resul
     settled
 }
 
-// Renames the new file over the old one, once the system has brought it to the disk.
+// Brings the fresh file to the disk, then renames it over the old one.
 fn publish<R: Files>(rt: &R, place: &Place) -> io::Result<()> {
     let fresh = place.fresh.as_str();
     fs::open(rt, fresh)?.sync_all()?;
     fs::rename(rt, fresh, place.file.as_str())
 }
 
-/// Adds bytes at the end of a file, which it makes where there is none. Where that fails the file is cut back to what it was, as far as the system gives that. Makes the folders that are wanted.
+/// Adds bytes at the end of a file. It makes the file and its folder if they aren't there. Where that fails, the file is cut back to what it was, as far as the system gives that.
 pub fn extend_file<R: Files>(rt: &R, place: &Place, bytes: &[u8]) -> io::Result<()> {
     fs::create_dir_all(rt, place.folder.as_str())?;
     let file = place.file.as_str();
@@ -124,7 +106,7 @@ pub fn extend_file<R: Files>(rt: &R, place: &Place, bytes: &[u8]) -> io::Result<
     written
 }
 
-/// Removes a file, or answers `None` where there is none.
+/// Removes a file, or answers `None` if there is none.
 pub fn remove_file<R: Files>(rt: &R, file: &str) -> io::Result<Option<()>> {
     match file_size(rt, file)? {
         Some(_) => Ok(Some(fs::remove_file(rt, file)?)),

@@ -1,11 +1,13 @@
 //! What lies in one folder.
-ghost use Rattle.std.specs.Prelude.{◌≡◌, ◌↔◌, ◌⊎◌, [], ◌∷◌, ◌++◌, All, IfOk, IfSome, IsOkAnd, IsSomeAnd, IsTrue, IsSorted, MatchOption, map, option_map, string_bytes};
+ghost use Rattle.std.specs.Prelude.{◌≡◌, ◌↔◌, ◌⊎◌, [], ◌∷◌, ◌++◌, All, IfOk, IfSome, IsSomeAnd, IsTrue, IsSorted, MatchOption, None, map, option_map, string_bytes};
 ghost use Rattle.std.proofs.Props.{props};
 ghost use Rattle.std.specs.Fs.{IsDir, IsFile, dir_entry_name};
 ghost use Rattle.std.specs.String.{string_cmp};
-ghost use Rattle.zot_outside.specs.Listing.{FindsAbove, IsChild, IsEntry, LiesIn, child_path};
+ghost use Rattle.zot_outside.specs.Listing.{FindsAbove, IsChild, IsEntry, child_path};
+ghost use Rattle.zot_outside.specs.Objects.{path_cmp};
+ghost use Rattle.std.specs.declared.cmp.Ordering.TheVariants.{Less};
 
-use crate::stores::files::present;
+use crate::stores::answers::present;
 use crate::stores::paths::{below, names_object};
 use crate::stores::root::Root;
 use std::alloc::{AllocError, Global};
@@ -13,7 +15,7 @@ use std::fs::{DirEntry, FileType, Files, ReadDir};
 use std::io::ErrorKind;
 use std::{fs, io};
 
-/// The paths in one folder, byte by byte in order: those of its files, and those of its folders with a slash behind, which begins all the paths below them.
+/// The paths in one folder, in the order of their bytes: those of its files, and those of its folders, which end with a slash.
 #[derive(Drop)]
 pub struct Listing {
     folder: String,
@@ -22,7 +24,7 @@ pub struct Listing {
 }
 
 impl Listing {
-    /// What lies in a folder below a root, which is the root itself where its path is empty. It is nothing where there is no such folder.
+    /// What lies in a folder below a root. An empty path is the root itself. A folder that isn't there has nothing.
     pub fn read<R: Files + AllocGlobal + Clone + Drop>(
         root: &Root<R>,
         folder: &str,
@@ -30,31 +32,43 @@ impl Listing {
         ensures folder { IfOk result (λ listing. string_bytes listing.folder ≡ folder.now) }
         ensures paths { IfOk result (λ listing. All (λ path. IsChild folder.now (string_bytes path)) listing.paths.items) }
     {
-        let mut paths = paths_of(root.alloc, folder, open_folder(root, folder)?)?;
+        let paths = match open_folder(root, folder)? {
+            Some(entries) => paths_of(root.alloc, folder, entries)?,
+            None => return Ok(Listing::of(root.alloc, folder, Vec::new(root.alloc))?),
+        };
+        Ok(Listing::of(root.alloc, folder, paths)?)
+    }
+
+    // The listing of a folder with these paths, which are in no order.
+    fn of(alloc: Global, folder: &str, paths: Vec<String>) -> Result<Listing, AllocError>
+        ensures folder { IfOk result (λ listing. string_bytes listing.folder ≡ folder.now) }
+        ensures paths { IfOk result (λ listing. All (λ path. IsChild folder.now (string_bytes path)) paths.items → All (λ path. IsChild folder.now (string_bytes path)) listing.paths.items) }
+    {
+        let mut paths = paths;
         paths.as_mut_slice().sort_unstable();
-        let folder = String::from_str(root.alloc, folder)?;
+        let folder = String::from_str(alloc, folder)?;
         Ok(Listing { folder, paths })
     }
 
-    /// Whether it is that of this folder.
+    /// Whether it is the listing of this folder.
     pub fn is_of(&self, folder: &str) -> bool
         ensures { IsTrue result ↔ (string_bytes self.now.folder ≡ folder.now) }
     {
         self.folder.as_str() == folder
     }
 
-    /// Whether its folder is this one or lies above it.
-    pub fn leads_to(&self, folder: &str) -> bool
-        ensures { IsTrue result ↔ LiesIn (string_bytes self.now.folder) folder.now }
+    /// A copy of the least path that is greater than a bound.
+    pub fn copy_above(&self, alloc: Global, bound: &str) -> Result<Option<String>, AllocError>
+        ensures { IfOk result (λ found. FindsAbove (map string_bytes self.now.paths.items) bound.now (option_map string_bytes found)) }
     {
-        match folder.strip_prefix(self.folder.as_str()) {
-            Some(rest) => self.folder.is_empty() || rest.is_empty() || rest.starts_with('/'),
-            None => false,
+        match self.above(bound) {
+            Some(path) => Ok(Some(String::from_str(alloc, path.as_str())?)),
+            None => Ok(None),
         }
     }
 
-    /// The least of the paths that is greater than another.
-    pub fn above(&self, bound: &str) -> Option<&String>
+    // The least path that is greater than a bound.
+    fn above(&self, bound: &str) -> Option<&String>
         ensures { FindsAbove (map string_bytes self.now.paths.items) bound.now (option_map (λ path. string_bytes path.now) result) }
     {
         let paths = self.paths.as_slice();
@@ -62,7 +76,7 @@ impl Listing {
     }
 }
 
-// The entries of a folder, or `None` where there is no such folder.
+// The entries of a folder, or `None` if there is no such folder.
 fn open_folder<R: Files + AllocGlobal + Clone + Drop>(
     root: &Root<R>,
     folder: &str,
@@ -77,61 +91,82 @@ fn open_folder<R: Files + AllocGlobal + Clone + Drop>(
     present(fs::read_dir(root.rt, name.as_str()))
 }
 
-// The paths of a folder's entries, in no order, and none of no folder.
+// The paths of a folder's entries, in no order.
 fn paths_of<R: Files + AllocGlobal + Clone + Drop>(
     alloc: Global,
     folder: &str,
-    entries: Option<ReadDir<R, Global>>,
+    entries: ReadDir<R, Global>,
 ) -> io::Result<Vec<String>>
     ensures { IfOk result (λ paths. All (λ path. IsChild folder.now (string_bytes path)) paths.items) }
 {
     let mut paths = Vec::new(alloc);
-    let Some(entries) = entries else {
-        return Ok(paths);
-    };
     for entry in entries {
-        if let Some(path) = path_of(alloc, folder, entry)? {
-            paths.push(path)?;
-        }
+        add_entry(&mut paths, alloc, folder, entry)?;
     }
     Ok(paths)
 }
 
-// The path of an entry, with a slash behind it for a folder. A name that is no text or begins with a dot has none, nor has what is neither a file nor a folder or has just gone.
-fn path_of<R: Files + Drop>(
+// Adds the path of an entry, if it has one. A name that isn't text has none.
+fn add_entry<R: Files + Drop>(
+    paths: &mut Vec<String>,
     alloc: Global,
     folder: &str,
     entry: io::Result<DirEntry<R, Global>>,
+) -> io::Result<()>
+    ensures { IfOk result (λ _. All (λ path. IsChild folder.now (string_bytes path)) paths.old.items → All (λ path. IsChild folder.now (string_bytes path)) paths.new.items) }
+{
+    match entry {
+        Ok(entry) => Ok(add(paths, path_of(alloc, folder, &entry)?)?),
+        Err(error) if error.kind() == ErrorKind::InvalidFilename => Ok(()),
+        Err(error) => Err(error),
+    }
+}
+
+fn add(paths: &mut Vec<String>, path: Option<String>) -> Result<(), AllocError>
+    ensures none { IfOk result (λ _. path ≡ None → paths.new.items ≡ paths.old.items) }
+    ensures some { IfOk result (λ _. IfSome path (λ one. paths.new.items ≡ paths.old.items ++ one ∷ [])) }
+{
+    if let Some(path) = path {
+        paths.push(path)?;
+    }
+    Ok(())
+}
+
+// The path of an entry; a folder's ends with a slash. There is none for a name that begins with a dot, for what is neither a file nor a folder, and for what has just gone.
+fn path_of<R: Files + Drop>(
+    alloc: Global,
+    folder: &str,
+    entry: &DirEntry<R, Global>,
 ) -> io::Result<Option<String>>
     ensures child { IfOk result (λ found. IfSome found (λ path. IsChild folder.now (string_bytes path))) }
-    ensures entry { IfOk result (λ found. IfSome found (λ path. IsOkAnd entry (λ one. IsEntry folder.now (dir_entry_name one) (string_bytes path)))) }
+    ensures entry { IfOk result (λ found. IfSome found (λ path. IsEntry folder.now (dir_entry_name entry.now) (string_bytes path))) }
 {
-    let entry = match entry {
-        Ok(entry) => entry,
-        Err(error) if error.kind() == ErrorKind::InvalidFilename => return Ok(None),
-        Err(error) => return Err(error),
-    };
     if entry.file_name().starts_with('.') {
         return Ok(None);
     }
-    let path = child(alloc, folder, entry.file_name())?;
     match present(entry.file_type())? {
-        Some(kind) => Ok(marked(alloc, path, kind)?),
+        Some(kind) => Ok(marked(alloc, folder, entry.file_name(), kind)?),
         None => Ok(None),
     }
 }
 
-// A path as a listing has it: with a slash behind it for a folder, and none for what is neither a file nor a folder.
-fn marked(alloc: Global, path: String, kind: FileType) -> Result<Option<String>, AllocError>
-    ensures folder { IsDir kind → IfOk result (λ found. IsSomeAnd found (λ given. string_bytes given ≡ string_bytes path ++ 47 ∷ [])) }
-    ensures file { IsFile kind → IfOk result (λ found. IsSomeAnd found (λ given. string_bytes given ≡ string_bytes path)) }
-    ensures given { IfOk result (λ found. IfSome found (λ given. (string_bytes given ≡ string_bytes path) ⊎ (string_bytes given ≡ string_bytes path ++ 47 ∷ []))) }
+// The path of a name in a folder, as a listing has it: a folder's ends with a slash, and what is neither a file nor a folder has none.
+fn marked(
+    alloc: Global,
+    folder: &str,
+    name: &str,
+    kind: FileType,
+) -> Result<Option<String>, AllocError>
+    ensures folder { IsDir kind → IfOk result (λ found. IsSomeAnd found (λ path. string_bytes path ≡ child_path folder.now name.now ++ 47 ∷ [])) }
+    ensures file { IsFile kind → IfOk result (λ found. IsSomeAnd found (λ path. string_bytes path ≡ child_path folder.now name.now)) }
+    ensures entry { IfOk result (λ found. IfSome found (λ path. IsEntry folder.now name.now (string_bytes path))) }
     ensures other { IfOk result (λ found. MatchOption found ((IsDir kind → ⊥) × (IsFile kind → ⊥)) (λ _. IsDir kind ⊎ IsFile kind)) }
 {
     if kind.is_dir() {
+        let path = child(alloc, folder, name)?;
         Ok(Some(format!(in alloc; "{path}/")?))
     } else if kind.is_file() {
-        Ok(Some(path))
+        Ok(Some(child(alloc, folder, name)?))
     } else {
         Ok(None)
     }

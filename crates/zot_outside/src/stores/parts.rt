@@ -1,10 +1,10 @@
-//! The stores that a cluster stands on.
+//! The stores of a cluster.
 
-/// The stores of a cluster: one for each row, and one for each digest shard.
+/// The stores of a cluster: a store part for each row of repositories, and one for each shard of digests. No part of a path or of a message is meant.
 #[derive(Drop)]
 pub struct Parts<S> {
-    /// Those of the rows, in the order of their numbers.
+    /// The parts of the rows, by their numbers.
     pub rows: Vec<S>,
-    /// Those of the shards, in the order of their numbers.
+    /// The parts of the shards, by their numbers.
     pub shards: Vec<S>,
 }

@@ -1,8 +1,8 @@
-//! A folder of the system in which files are looked for.
+//! The folder that a store keeps its files in.
 
 use std::alloc::Global;
 
-/// A folder of the system, what it is read with, and where the texts that are read are kept.
+/// The folder of a store: what it is read with, and the allocator and the name.
 #[derive(Drop)]
 pub struct Root<'a, R> {
     pub rt: &'a R,

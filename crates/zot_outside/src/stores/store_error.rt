@@ -1,20 +1,23 @@
-//! What a call of a store answers in place of a result.
+//! What a call of a store answers.
 use std::alloc::AllocError;
 use thiserror::Error;
 
 /// Why a call of a store has no result.
-#[derive(Clone, Copy, Debug, PartialEq, Eq, Error)]
+#[derive(Clone, Copy, Debug, Error)]
 pub enum StoreError {
-    /// No object has the path.
-    #[error("no object has the path")]
+    /// The path has no object.
+    #[error("the path has no object")]
     Missing,
-    /// The store failed. Its count of faults has risen in that call.
+    /// The store failed, and its count of faults rose.
     #[error("the store failed")]
     Failed,
     /// Memory ran out.
     #[error("out of memory")]
     NoMemory,
 }
+
+/// What a call of a store answers.
+pub type StoreResult<T> = Result<T, StoreError>;
 
 impl From<AllocError> for StoreError {
     ghost use Rattle.std.specs.Prelude.{◌≡◌};

@@ -8,12 +8,13 @@ ghost use Rattle.zot_outside.specs.Objects.{path_cmp};
 
 use crate::stores::listing::Listing;
 use crate::stores::root::Root;
-use std::alloc::Global;
+use crate::stores::spot::{Found, Spot};
+use std::alloc::{AllocError, Global};
 use std::fs::Files;
 use std::io;
 use std::io::ErrorKind;
 
-/// A walk through the files below a root. While it goes on from the path that it found last, each folder is read once, as it was when the walk came to it.
+/// A walk through the files below a root. While it goes on from the path that it found last, it reads each folder once.
 #[derive(Drop)]
 pub struct Walk {
     last: String,
@@ -38,7 +39,7 @@ impl Walk {
         self.listings.clear();
     }
 
-    /// The least path of a file below a root that is greater than a path, byte by byte.
+    /// The least path of a file below a root that is greater than the path `after`.
     pub fn next<R: Files + AllocGlobal + Clone + Drop>(
         &mut self,
         root: &Root<R>,
@@ -56,7 +57,7 @@ impl Walk {
         Ok(found)
     }
 
-    // The least path of a file that is greater than a path. It is looked for in the folder that the path lies in, then in those above, and in each folder on the way that comes next.
+    // The same. It looks in the folder that the path lies in, then in the folders above, and goes down into each folder that comes next.
     fn find<R: Files + AllocGlobal + Clone + Drop>(
         &mut self,
         root: &Root<R>,
@@ -64,42 +65,30 @@ impl Walk {
     ) -> io::Result<Option<String>>
         ensures { IfOk result (λ found. IfSome found (λ path. IsFileAbove after.now (string_bytes path))) }
     {
-        let mut folder = String::from_str(root.alloc, above(after))?;
-        let mut bound = String::from_str(root.alloc, after)?;
+        let mut spot = Spot::at(root.alloc, after)?;
         for _ in 0..u64::MAX {
-            match self.least(root, folder.as_str(), bound.as_str())? {
-                Some(path) => match path.as_str().strip_suffix('/') {
-                    Some(below) => {
-                        folder = String::from_str(root.alloc, below)?;
-                        bound = path;
-                    }
-                    None => return Ok(Some(path)),
-                },
-                None if folder.is_empty() => return Ok(None),
-                None => folder = String::from_str(root.alloc, above(folder.as_str()))?,
+            let least = self.least(root, &spot)?;
+            if let Found::End(found) = spot.follow(root.alloc, least)? {
+                return Ok(found);
             }
         }
         Err(io::Error::from(ErrorKind::Other))
     }
 
-    // The least path in a folder that is greater than a bound, by the folder's listing.
+    // The least path in the folder of a spot that is greater than its bound, by the folder's listing.
     fn least<R: Files + AllocGlobal + Clone + Drop>(
         &mut self,
         root: &Root<R>,
-        folder: &str,
-        bound: &str,
+        spot: &Spot,
     ) -> io::Result<Option<String>>
-        ensures above { IfOk result (λ found. IfSome found (λ path. path_cmp bound.now (string_bytes path) ≡ Less)) }
-        ensures least { IfOk result (λ found. Any (λ (listing : Listing). (string_bytes listing.folder ≡ folder.now) × FindsAbove (map string_bytes listing.paths.items) bound.now (option_map string_bytes found)) self.new.listings.items) }
+        ensures above { IfOk result (λ found. IfSome found (λ path. path_cmp (string_bytes spot.now.bound) (string_bytes path) ≡ Less)) }
+        ensures least { IfOk result (λ found. Any (λ (listing : Listing). (string_bytes listing.folder ≡ string_bytes spot.now.folder) × FindsAbove (map string_bytes listing.paths.items) (string_bytes spot.now.bound) (option_map string_bytes found)) self.new.listings.items) }
     {
-        let at = self.listed(root, folder)?;
-        match self.listings[at].above(bound) {
-            Some(path) => Ok(Some(String::from_str(root.alloc, path.as_str())?)),
-            None => Ok(None),
-        }
+        let at = self.listed(root, spot.folder())?;
+        Ok(self.listings[at].copy_above(root.alloc, spot.bound())?)
     }
 
-    // Where the listing of a folder stands, which is read where none is held. The listings of folders that don't lie above it are let go.
+    // Where the listing of a folder stands. It is read if it isn't held.
     fn listed<R: Files + AllocGlobal + Clone + Drop>(
         &mut self,
         root: &Root<R>,
@@ -108,25 +97,34 @@ impl Walk {
         ensures within { IfOk result (λ at. at < vec_len self.new.listings) }
         ensures folder { IfOk result (λ at. HoldsAt (λ (listing : Listing). string_bytes listing.folder ≡ folder.now) self.new.listings.items at) }
     {
-        self.listings.retain(|listing| listing.leads_to(folder));
-        if let Some(at) = self
+        match self.held(folder) {
+            Some(at) => Ok(at),
+            None => Ok(self.add(Listing::read(root, folder)?)?),
+        }
+    }
+
+    // Where the listing of a folder stands that is held. Those that were read after it are dropped.
+    fn held(&mut self, folder: &str) -> Option<usize>
+        ensures within { IfSome result (λ at. at < vec_len self.new.listings) }
+        ensures folder { IfSome result (λ at. HoldsAt (λ (listing : Listing). string_bytes listing.folder ≡ folder.now) self.new.listings.items at) }
+    {
+        let held = self
             .listings
             .iter()
-            .position(|listing| listing.is_of(folder))
-        {
-            return Ok(at);
+            .position(|listing| listing.is_of(folder));
+        if let Some(at) = held {
+            self.listings.truncate(at + 1);
         }
+        held
+    }
+
+    // Adds a listing, and answers where it stands.
+    fn add(&mut self, listing: Listing) -> Result<usize, AllocError>
+        ensures within { IfOk result (λ at. at < vec_len self.new.listings) }
+        ensures listing { IfOk result (λ at. HoldsAt (λ (other : Listing). other ≡ listing) self.new.listings.items at) }
+    {
         let at = self.listings.len();
-        let listing = Listing::read(root, folder)?;
         self.listings.push(listing)?;
         Ok(at)
-    }
-}
-
-// What stands above the last part of a path, and nothing where it has one part.
-fn above(path: &str) -> &str {
-    match path.rsplit_once('/') {
-        Some((above, _)) => above,
-        None => "",
     }
 }

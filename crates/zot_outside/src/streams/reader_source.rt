@@ -7,7 +7,7 @@ use crate::streams::Source;
 use std::io;
 use std::io::Read;
 
-/// A reader of std as a source. It tells the bytes that the reader tells, as a slice does and a terminal, a file or a stream of the network doesn't, and counts each failed read.
+/// A reader of std as a source. It tells what the reader tells: a slice tells its bytes, and a terminal, a file or a stream of the network doesn't. It counts each failed read.
 #[derive(Drop)]
 pub struct ReaderSource<R> {
     reader: R,
@@ -23,7 +23,7 @@ impl<R> ReaderSource<R> {
         ReaderSource { reader, faults: 0 }
     }
 
-    // What a read answers that did its work, or failed. A read that gave nothing has not failed.
+    // What a call answers for a read. A read that gave nothing hasn't failed.
     fn done(&mut self, read: io::Result<usize>) -> Result<usize, Failed>
         ensures cause { HasCause self.old.faults self.new.faults result }
         ensures ok { IfOk result (λ n. read ≡ Ok n) }

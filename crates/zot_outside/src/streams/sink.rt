@@ -9,13 +9,13 @@ use crate::failed::Failed;
 pub trait Sink {
     ghost use Rattle.std.specs.Prelude.{ℕ, List, Option};
 
-    // The bytes that were written, or none where the sink doesn't tell.
+    // The bytes that were written, or none if the sink doesn't tell.
     ghost held: { Self → Option (List ℕ) };
 
-    // How many calls failed so far. The count stands still at the end of 64 bits.
+    // How many calls have failed. The count stops at 2^64 - 1.
     ghost faults: { Self → ℕ };
 
-    /// Appends the first bytes of the piece, and answers how many: at least one where the piece isn't empty. An `Err` appended nothing.
+    /// Appends the first bytes of the piece, and answers how many: at least one if the piece isn't empty. A call that answers `Err` appended nothing.
     fn write(&mut self, piece: &[u8]) -> Result<usize, Failed>
         ensures cause { HasCause (faults self.old) (faults self.new) result }
         ensures ok { IfOk result (λ n. Writes (held self.old) piece.now n (held self.new)) }

@@ -7,7 +7,7 @@ use crate::streams::Sink;
 use std::io;
 use std::io::Write;
 
-/// A writer of std as a sink. It tells the bytes that the writer tells, as a `Vec` does and a terminal, a file or a stream of the network doesn't, and counts each failed write; a write that takes nothing of a piece has failed too.
+/// A writer of std as a sink. It tells what the writer tells: a `Vec` tells its bytes, and a terminal, a file or a stream of the network doesn't. It counts each failed write. A write that takes nothing of a piece has failed too.
 #[derive(Drop)]
 pub struct WriterSink<W> {
     writer: W,
@@ -23,7 +23,7 @@ impl<W> WriterSink<W> {
         WriterSink { writer, faults: 0 }
     }
 
-    // What a write of a piece answers that did its work, or failed. One that took nothing of a piece has failed too.
+    // What a call answers for a write of a piece.
     fn done(&mut self, piece: &[u8], written: io::Result<usize>) -> Result<usize, Failed>
         ensures cause { HasCause self.old.faults self.new.faults result }
         ensures ok { IfOk result (λ n. written ≡ Ok n) }

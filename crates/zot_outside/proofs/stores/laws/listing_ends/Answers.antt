@@ -1,5 +1,5 @@
-use Rattle.zot_outside.proofs.ListingLemmas.{length-paths_behind}
+use Rattle.zot_outside.proofs.ListingLemmas.{length-paths_after}
 use Rattle.zot_outside.proofs.stores.laws.listing_ends.Goals as goal
 
 pub returns : goal.returns
-returns c = length-paths_behind
+returns c = length-paths_after

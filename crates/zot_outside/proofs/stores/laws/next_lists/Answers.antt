@@ -1,5 +1,5 @@
-use Rattle.zot_outside.proofs.ListingLemmas.{paths_behind-follows}
+use Rattle.zot_outside.proofs.ListingLemmas.{paths_after-follows}
 use Rattle.zot_outside.proofs.stores.laws.next_lists.Goals as goal
 
 pub returns : goal.returns
-returns c = paths_behind-follows
+returns c = paths_after-follows

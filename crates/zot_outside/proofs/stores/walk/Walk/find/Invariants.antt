@@ -5,4 +5,4 @@ use Rattle.zot_outside.proofs.stores.walk.Walk.find.Given as goal
 
 -- the bound isn't less than the path that was asked
 abbrev pub invariant-loop : goal.invariant-loop
-invariant-loop g l = path_cmp l.after (string_bytes l.bound) ≢ Greater
+invariant-loop g l = path_cmp l.after (string_bytes l.spot.bound) ≢ Greater
