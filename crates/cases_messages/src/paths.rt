@@ -3,9 +3,9 @@ use std::alloc::Global;
 use zot_cases::{Trouble, escape};
 use zot_route::{Form, Path, Target};
 
-/// The form of a target's path, the parts of its name with a bar after each, and its text.
+/// The form of a target's path, the segments of its name with a bar after each, and its text.
 pub fn path(alloc: Global, given: &str) -> Result<String, Trouble> {
-    let Some(list) = Target::read(given).parts(alloc)? else {
+    let Some(list) = Target::read(given).segments(alloc)? else {
         return Ok(String::from_str(alloc, "no text")?);
     };
     let Some(path) = Path::read(list.as_slice()) else {
@@ -13,8 +13,8 @@ pub fn path(alloc: Global, given: &str) -> Result<String, Trouble> {
     };
     let mut text = String::from_str(alloc, form_name(path.form()))?;
     text.push_str(";")?;
-    for part in path.name() {
-        text.push_str(part.as_str())?;
+    for segment in path.name() {
+        text.push_str(segment.as_str())?;
         text.push_str("|")?;
     }
     text.push_str(";")?;

@@ -7,7 +7,7 @@ use zot_cases::{Trouble, confirm, unescape};
 use zot_digest::digest_of;
 use zot_head::read_head;
 use zot_model::{Call, Reply, Request};
-use zot_route::{Routed, route};
+use zot_route::{ParsedHead, Routed, route};
 
 /// The methods that are asked.
 const METHODS: &str = "GET HEAD PUT POST PATCH DELETE get BREW";
@@ -94,7 +94,7 @@ fn routed(alloc: Global, line: &str, body: &[u8]) -> Option<Routed> {
     let text = head_of(alloc, line).ok()?;
     let head = read_head(alloc, text.as_slice()).ok()?;
     let body = Vec::from_slice(alloc, body).ok()?;
-    route(alloc, &head, body).ok()
+    route(alloc, &ParsedHead::new(&head), body).ok()
 }
 
 // The head that the text of a message stands for.

@@ -4,7 +4,7 @@ use std::alloc::Global;
 use zot_cases::{Trouble, confirm};
 use zot_head::{Found, Framing, find_head, read_head};
 use zot_model::Request;
-use zot_route::{Routed, route};
+use zot_route::{ParsedHead, Routed, route};
 
 /// The request that a message of these bytes asks.
 pub fn asked(alloc: Global, given: &str) -> Result<Request, Trouble> {
@@ -24,7 +24,7 @@ pub fn asked(alloc: Global, given: &str) -> Result<Request, Trouble> {
         Framing::Chunked => return Err(Trouble::Wrong("chunks")),
     };
     confirm(size == body.len() as u64, "another length than its body's")?;
-    match route(alloc, &head, Vec::from_slice(alloc, body)?)? {
+    match route(alloc, &ParsedHead::new(&head), Vec::from_slice(alloc, body)?)? {
         Routed::Request(request) => Ok(request),
         Routed::Refused(_) => Err(Trouble::Wrong("a refused message")),
     }

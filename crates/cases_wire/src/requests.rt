@@ -8,7 +8,7 @@ use zot_cases::{Trouble, confirm};
 use zot_delivery::carry;
 use zot_head::{Found, find_head, read_head};
 use zot_model::{BODY_LIMIT, Request};
-use zot_route::{Routed, route};
+use zot_route::{ParsedHead, Routed, route};
 use zot_spell::{body_of, head_and_body, spell_request, spell_request_head};
 
 /// The request of a line: the name or `-`, the call, and whether it was handed on. It is spelled as the line, with its
@@ -66,7 +66,7 @@ fn asked(alloc: Global, head: &[u8], body: &[u8]) -> Result<Request, Trouble>
     if body.len() as u64 > BODY_LIMIT {
         return Err(Trouble::Wrong("too long a body"));
     }
-    match route(alloc, &head, Vec::from_slice(alloc, body)?)? {
+    match route(alloc, &ParsedHead::new(&head), Vec::from_slice(alloc, body)?)? {
         Routed::Request(request) => Ok(request),
         Routed::Refused(_) => Err(Trouble::Wrong("refused")),
     }

@@ -22,8 +22,8 @@ use Rattle.zot_model.specs.Valid.{IsShort, IsSpan}
 use Rattle.zot_names.specs.Name.{IsName}
 use Rattle.zot_names.specs.Upload.{upload_text}
 use Rattle.zot_names.proofs.UploadLemmas.{decode_sized-upload_text}
-use Rattle.zot_route.specs.Asked.{IsFrom, IsId, IsReference, asks_post, digest_or, number_or, on_digest, optional_digest, post_of}
-use Rattle.zot_route.specs.declared.verb.Verb.TheVariants.{Post}
+use Rattle.zot_route.specs.Calls.{IsFrom, IsId, IsReference, post_call, digest_or, number_or, on_digest, optional_digest, post_of}
+use Rattle.zot_route.specs.declared.method.Method.TheVariants.{Post}
 use Rattle.zot_route.specs.Lines.{AreMedia, AreMediaBy, is_hop, is_there, range_by, range_of, span_by, span_of, type_of}
 use Rattle.zot_spell.specs.Wire.{dash, hop_value, id_text, media_value, mount_from, reference_text, span_text}
 use Rattle.zot_model.specs.Values.{IsMount, IsRef, IsWord}
@@ -54,7 +54,7 @@ from_named (Some name) is = (is, refl)
 
 pub post_asked : (mount : Option Mount) (digest : Option (List ℕ)) (body : List ℕ) → IfSome mount IsMount → IfSome digest IsDigest
     → (from : Option (List ℕ)) × IsFrom (mount_from mount) from
-    × (Ok (calls.Post mount digest body) ≡ asks_post Post (option_map (λ m. digest_text m.digest) mount) from (option_map digest_text digest) body)
+    × (Ok (calls.Post mount digest body) ≡ post_call Post (option_map (λ m. digest_text m.digest) mount) from (option_map digest_text digest) body)
 post_asked None digest body h is = (None, refl, sym (ap (post_of None body (Ok None)) (optional digest is)))
 post_asked (Some mount) digest body h is =
     (mount.from, from_named mount.from h.from, sym (λ i. post_of mount.from body (optional (Some mount.digest) h.digest i) (optional digest is i)))

@@ -146,7 +146,7 @@ module _ (request : Request) (values : HasValues request) (valid : IsValid reque
         few_lines = not_crowded (head_of request) (tree request) is text (few_lines (fields_in request));
         request = tree request;
         reads = (is, text ∙ sym (append-nil (print_request (tree request))));
-        parts = record {
+        head_is = record {
           method = refl;
           target = refl;
           fields = sym (lines_read (fields_in request) written);

@@ -75,7 +75,7 @@ pub named_path : (parts : List (List ℕ)) (name rest : List ℕ) (form : Form) 
     → split rest ≡ ending → IsEnding form (split name) text ending → IsPath parts form (split name) text
 named_path parts name rest form text ending e f ends =
     record {
-      behind = split name ++ ending;
+      after = split name ++ ending;
       spelled = e ∙ ap (λ (p : List (List ℕ)). [] ∷ codes "v2" ∷ p) (split-join name rest ∙ ap (λ (p : List (List ℕ)). split name ++ p) f);
       is = record { ending = ending; ends = ends; spelled = refl };
     }
@@ -83,7 +83,7 @@ named_path parts name rest form text ending e f ends =
 -- ---- a path of each form
 
 pub base_path : (parts : List (List ℕ)) → parts ≡ split (codes "/v2/") → IsPath parts forms.Base [] []
-base_path parts e = record { behind = [] ∷ []; spelled = e; is = record { ending = [] ∷ []; ends = (refl, refl, inr refl); spelled = refl } }
+base_path parts e = record { after = [] ∷ []; spelled = e; is = record { ending = [] ∷ []; ends = (refl, refl, inr refl); spelled = refl } }
 
 module _ (parts : List (List ℕ)) (name text : List ℕ) where
   pub blob_path : parts ≡ split (codes "/v2/" ++ name ++ (codes "/blobs/" ++ text)) → All IsPartByte text → text ≢ codes "uploads" → IsPath parts forms.Blob (split name) text

@@ -9,7 +9,7 @@ use Rattle.std.proofs.lemmas.List.Elements.{All-append, All-cons, All-nil, All-w
 use Rattle.std.proofs.lemmas.Str.{utf8_lossy-IsUtf8}
 use Rattle.form_urlencoded.specs.Form.{IsUnchanged, append_pair, byte_serialize, decode, extend_pairs, is_nonempty, raw_pairs, separator, serialize_pair, split_once}
 use Rattle.form_urlencoded.proofs.FormLemmas.{All-byte_serialize, IsBytePair, IsSerializedByte, round_trip, split_once_after_at, split_once_after_none, split_once_before_at, split_once_before_none}
-use Rattle.zot_route.specs.Path.{decoded, parts_of, query_of}
+use Rattle.zot_route.specs.Path.{decoded, query_of, segments_of}
 use Rattle.zot_route.specs.Query.{first_of, text_of, value_of, values_in}
 use Rattle.zot_spell.specs.Wire.{present, query_text}
 use Rattle.zot_delivery.proofs.ByteLemmas.{IsPathByte, IsVisible, text_bytes}
@@ -105,9 +105,9 @@ unfolding query_text
 after_query path [] all = ap (λ t. (split_once 63 t).1) (append-nil path) ∙ split_once_after_none 63 path (no_question path all)
 after_query path (b ∷ form) all = split_once_after_at 63 path (b ∷ form) (no_question path all)
 
-pub parts_of-target : (path form : List ℕ) → All IsPathByte path → parts_of (path ++ query_text form) ≡ decoded path
-unfolding parts_of
-parts_of-target path form all = ap decoded (before_query path form all)
+pub segments_of-target : (path form : List ℕ) → All IsPathByte path → segments_of (path ++ query_text form) ≡ decoded path
+unfolding segments_of
+segments_of-target path form all = ap decoded (before_query path form all)
 
 pub query_of-target : (path form : List ℕ) → All IsPathByte path → query_of (path ++ query_text form) ≡ form
 unfolding query_of

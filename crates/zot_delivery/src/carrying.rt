@@ -8,7 +8,7 @@ ghost use Rattle.zot_spell.specs.Wire.{with_hop};
 use std::alloc::{AllocError, Global};
 use zot_head::{Head, HeadError, read_head};
 use zot_model::{Request, has_values};
-use zot_route::{Routed, route};
+use zot_route::{ParsedHead, Routed, route};
 use zot_spell::{body_of, spell_request_head};
 
 /// The request that another member reads of this one, handed on or not as `hop` says, whatever the length of its head. It fails only where memory does.
@@ -20,7 +20,8 @@ pub fn carry(alloc: Global, request: &Request, hop: bool) -> Result<Request, All
     let body = body_of(request);
     let bytes = spell_request_head(alloc, request, hop, body.len() as u64)?;
     let head = head_in(alloc, bytes.as_slice())?;
-    match route(alloc, &head, Vec::from_slice(alloc, body)?)? {
+    let parsed = ParsedHead::new(&head);
+    match route(alloc, &parsed, Vec::from_slice(alloc, body)?)? {
         Routed::Request(other) => Ok(other),
         Routed::Refused(_) => unreachable!(),
     }

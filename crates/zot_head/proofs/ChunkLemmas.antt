@@ -7,7 +7,7 @@ use Rattle.std.proofs.lemmas.Bool.Decides.{nat_tests}
 use Rattle.zot_head.specs.declared.chunk_error.ChunkError.TheVariants.{Bad, NoMemory, TooLarge, TooLong}
 use Rattle.zot_head.specs.Limits.{chunk_line_limit, trailer_limit}
 use Rattle.zot_head.specs.Lines.{line_end, section_end, Extent, Ends, Passes, Goes, extent}
-use Rattle.zot_head.specs.Chunked.{size_of, Body, Whole, Unfinished, Broken, behind, from_trailer, from_tail, from_bytes, from_size, from_line, chunks, chunked}
+use Rattle.zot_head.specs.Chunked.{size_of, Body, Whole, Unfinished, Broken, body_after, from_trailer, from_tail, from_bytes, from_size, from_line, chunks, chunked}
 use Rattle.zot_head.proofs.LineLemmas.{line_end_is, section_end_is, IsSettled, extent_stays, extent_within}
 
 -- ---- the count of chunks doesn't matter
@@ -23,7 +23,7 @@ from_tail_same f g room (a ∷ b ∷ bytes) n le same = ap (λ (x : Body). cond 
 
 from_bytes_same : (f g : ℕ → List ℕ → Body) (room size : ℕ) (bytes : List ℕ) (n : ℕ) → length bytes ≤ n → Agree f g n → from_bytes (f room) size bytes ≡ from_bytes (g room) size bytes
 from_bytes_same f g room size bytes n le same =
-    ap (λ (x : Body). cond (ltb (length bytes) size) (Unfinished bytes) (behind (take size bytes) x)) (from_tail_same f g room (drop size bytes) n (omega (arith, length-drop size bytes)) same)
+    ap (λ (x : Body). cond (ltb (length bytes) size) (Unfinished bytes) (body_after (take size bytes) x)) (from_tail_same f g room (drop size bytes) n (omega (arith, length-drop size bytes)) same)
 
 from_size_same : (f g : ℕ → List ℕ → Body) (room : ℕ) (size : Option ℕ) (bytes : List ℕ) (n : ℕ) → length bytes ≤ n → Agree f g n → from_size f room size bytes ≡ from_size g room size bytes
 from_size_same f g room None bytes n le same = refl
@@ -68,15 +68,15 @@ with_more more (Broken body error) = Broken body error
 abbrev Stays : (List ℕ → Body) → List ℕ → List ℕ → Type 0
 Stays next more bytes = IsDecided (next bytes) → next (bytes ++ more) ≡ with_more more (next bytes)
 
-behind_more : (given more : List ℕ) (body : Body) → with_more more (behind given body) ≡ behind given (with_more more body)
-behind_more given more (Whole body rest) = refl
-behind_more given more (Unfinished body) = refl
-behind_more given more (Broken body error) = refl
+after_more : (given more : List ℕ) (body : Body) → with_more more (body_after given body) ≡ body_after given (with_more more body)
+after_more given more (Whole body rest) = refl
+after_more given more (Unfinished body) = refl
+after_more given more (Broken body error) = refl
 
-decided_behind : (given : List ℕ) (body : Body) → IsDecided (behind given body) → IsDecided body
-decided_behind given (Whole body rest) d = tt
-decided_behind given (Unfinished body) d = d
-decided_behind given (Broken body error) d = tt
+decided_after : (given : List ℕ) (body : Body) → IsDecided (body_after given body) → IsDecided body
+decided_after given (Whole body rest) d = tt
+decided_after given (Unfinished body) d = d
+decided_after given (Broken body error) d = tt
 
 from_tail_stays : (next : List ℕ → Body) (more bytes : List ℕ) → ((rest : List ℕ) → length rest < length bytes → Stays next more rest) → Stays (from_tail next) more bytes
 from_tail_stays next more [] stays d = absurd d
@@ -96,9 +96,9 @@ from_bytes_stays next size more bytes stays d =
       | inr le ↦
           let long : ltb (length bytes) size ≡ false = grind (arith, nat_tests) in
           let longer : ltb (length (bytes ++ more)) size ≡ false = grind (arith, nat_tests, length-append bytes more) in
-          let h : IsDecided (behind (take size bytes) (from_tail next (drop size bytes))) = rw long at d in
-          let tail = from_tail_stays next more (drop size bytes) (λ rest lt. stays rest (omega (arith, lt, length-drop size bytes))) (decided_behind (take size bytes) (from_tail next (drop size bytes)) h) in
-          rw (longer, long, take-append-le size bytes more le, drop-append-le size bytes more le, tail) (sym (behind_more (take size bytes) more (from_tail next (drop size bytes))))
+          let h : IsDecided (body_after (take size bytes) (from_tail next (drop size bytes))) = rw long at d in
+          let tail = from_tail_stays next more (drop size bytes) (λ rest lt. stays rest (omega (arith, lt, length-drop size bytes))) (decided_after (take size bytes) (from_tail next (drop size bytes)) h) in
+          rw (longer, long, take-append-le size bytes more le, drop-append-le size bytes more le, tail) (sym (after_more (take size bytes) more (from_tail next (drop size bytes))))
     ]
 
 from_trailer_stays : (e : Extent) (more bytes : List ℕ) → ((n : ℕ) → e ≡ Ends n → n ≤ length bytes) → IsDecided (from_trailer e bytes) → from_trailer e (bytes ++ more) ≡ with_more more (from_trailer e bytes)
@@ -172,7 +172,7 @@ LeavesEnding bytes (Whole body rest) = Ending bytes rest
 LeavesEnding bytes (Unfinished body) = Unit {0}
 LeavesEnding bytes (Broken body error) = Unit {0}
 
-ends_drop : (n : ℕ) (bytes given : List ℕ) (body : Body) → n ≤ length bytes → LeavesEnding (drop n bytes) body → LeavesEnding bytes (behind given body)
+ends_drop : (n : ℕ) (bytes given : List ℕ) (body : Body) → n ≤ length bytes → LeavesEnding (drop n bytes) body → LeavesEnding bytes (body_after given body)
 ends_drop n bytes given (Whole body rest) le e = ending_drop n bytes rest le e
 ends_drop n bytes given (Unfinished body) le e = tt
 ends_drop n bytes given (Broken body error) le e = tt
@@ -241,9 +241,9 @@ chunked_ends_below (suc n) room bytes lt =
 pub chunked_ends : (room : ℕ) (bytes : List ℕ) → LeavesEnding bytes (chunked room bytes)
 chunked_ends room bytes = chunked_ends_below (suc (length bytes)) room bytes (omega arith)
 
--- ---- a definition of a body doesn't tell of memory
+-- ---- bytes don't say that memory ran out
 
--- the error, if there is one, isn't the want of memory
+-- the error, if there is one, isn't that memory ran out
 abbrev pub IsOfBytes : Body → Type 0
 IsOfBytes (Broken body NoMemory) = ⊥
 IsOfBytes (Broken body Bad) = Unit {0}
@@ -252,13 +252,13 @@ IsOfBytes (Broken body TooLarge) = Unit {0}
 IsOfBytes (Whole body rest) = Unit {0}
 IsOfBytes (Unfinished body) = Unit {0}
 
-of_bytes-behind : (given : List ℕ) (body : Body) → IsOfBytes body → IsOfBytes (behind given body)
-of_bytes-behind given (Whole body rest) h = h
-of_bytes-behind given (Unfinished body) h = h
-of_bytes-behind given (Broken body Bad) h = h
-of_bytes-behind given (Broken body TooLong) h = h
-of_bytes-behind given (Broken body TooLarge) h = h
-of_bytes-behind given (Broken body NoMemory) h = h
+of_bytes-after : (given : List ℕ) (body : Body) → IsOfBytes body → IsOfBytes (body_after given body)
+of_bytes-after given (Whole body rest) h = h
+of_bytes-after given (Unfinished body) h = h
+of_bytes-after given (Broken body Bad) h = h
+of_bytes-after given (Broken body TooLong) h = h
+of_bytes-after given (Broken body TooLarge) h = h
+of_bytes-after given (Broken body NoMemory) h = h
 
 tail_of_bytes : (next : List ℕ → Body) (bytes : List ℕ) → ((rest : List ℕ) → IsOfBytes (next rest)) → IsOfBytes (from_tail next bytes)
 tail_of_bytes next [] all = tt
@@ -279,10 +279,10 @@ size_of_bytes next room (Some zero) bytes all = of_trailer (extent (section_end 
     of_trailer Goes = tt
 size_of_bytes next room (Some (suc n)) bytes all = step (ltb room (suc n)) (ltb (length bytes) (suc n))
   where
-    step : (t u : Bool) → IsOfBytes (cond t (Broken [] TooLarge) (cond u (Unfinished bytes) (behind (take (suc n) bytes) (from_tail (next (room - suc n)) (drop (suc n) bytes)))))
+    step : (t u : Bool) → IsOfBytes (cond t (Broken [] TooLarge) (cond u (Unfinished bytes) (body_after (take (suc n) bytes) (from_tail (next (room - suc n)) (drop (suc n) bytes)))))
     step true u = tt
     step false true = tt
-    step false false = of_bytes-behind (take (suc n) bytes) (from_tail (next (room - suc n)) (drop (suc n) bytes)) (tail_of_bytes (next (room - suc n)) (drop (suc n) bytes) (all (room - suc n)))
+    step false false = of_bytes-after (take (suc n) bytes) (from_tail (next (room - suc n)) (drop (suc n) bytes)) (tail_of_bytes (next (room - suc n)) (drop (suc n) bytes) (all (room - suc n)))
 
 line_of_bytes : (next : ℕ → List ℕ → Body) (room : ℕ) (e : Extent) (bytes : List ℕ) → ((room : ℕ) (rest : List ℕ) → IsOfBytes (next room rest)) → IsOfBytes (from_line next room e bytes)
 line_of_bytes next room (Ends n) bytes all = size_of_bytes next room (size_of (take n bytes)) (drop n bytes) all
@@ -297,6 +297,6 @@ chunked_of_bytes : (room : ℕ) (bytes : List ℕ) → IsOfBytes (chunked room b
 unfolding chunked
 chunked_of_bytes room bytes = chunks_of_bytes (suc (length bytes)) room bytes
 
--- A body in chunks is never broken for want of memory.
+-- A body in chunks is never broken because memory ran out.
 pub broken_of_bytes : (room : ℕ) (bytes body : List ℕ) → chunked room bytes ≡ Broken body NoMemory → ⊥
 broken_of_bytes room bytes body e = subst IsOfBytes e (chunked_of_bytes room bytes)

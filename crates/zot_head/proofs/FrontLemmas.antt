@@ -10,7 +10,7 @@ use Rattle.zot_head.specs.declared.framing.Framing.TheVariants as framings
 use Rattle.zot_head.specs.declared.head.Head.{Head}
 use Rattle.zot_head.specs.Chunked.{Body, Whole, Unfinished, Broken, chunked}
 use Rattle.zot_head.specs.Fields.{framing_of}
-use Rattle.zot_head.specs.Front.{HasParts, IsHead, SizeInvalid, Front, Message, Refused, Partial, with_chunks, with_body, IsMessage, crowded, invalid, headed, IsFrontBy, IsFront, IsDecided, with_more, IsRestOf}
+use Rattle.zot_head.specs.Front.{IsHeadOf, IsHead, SizeInvalid, Front, Message, Refused, Partial, with_chunks, with_body, IsMessage, crowded, invalid, headed, IsFrontBy, IsFront, IsDecided, with_more, IsRestOf}
 use Rattle.zot_head.specs.Limits.{head_limit}
 use Rattle.zot_head.specs.Lines.{head_end, Extent, Ends, Passes, Goes, extent}
 use Rattle.zot_head.proofs.LineLemmas.{head_end_is, IsSettled, extent_stays, extent_within}
@@ -116,8 +116,8 @@ front_takes limit bytes head body rest is =
 
 -- ---- what stands at the front is determined
 
-same_parts : (h : RequestHead) (a b : Head) → HasParts h a → HasParts h b → a ≡ b
-same_parts h a b x y =
+same_head : (h : RequestHead) (a b : Head) → IsHeadOf h a → IsHeadOf h b → a ≡ b
+same_head h a b x y =
     let fields : a.fields ≡ b.fields = x.fields ∙ sym y.fields in
     let framing : a.framing ≡ b.framing = cc (x.framing, y.framing, ap framing_of fields) in
     let expects : a.expects ≡ b.expects = cc (x.expects, y.expects, fields, framing) in
@@ -130,7 +130,7 @@ same_parts h a b x y =
 pub head_unique : (text : List ℕ) (a b : Head) → IsHead text a → IsHead text b → a ≡ b
 head_unique text a b x y =
     let same = request_unique text x.request y.request [] [] x.reads y.reads in
-    same_parts y.request a b (subst (λ (h : RequestHead). HasParts h a) same.0 x.parts) y.parts
+    same_head y.request a b (subst (λ (h : RequestHead). IsHeadOf h a) same.0 x.head_is) y.head_is
 
 message_unique : (limit : ℕ) (text bytes : List ℕ) (x y : Front) → IsMessage limit text bytes x → IsMessage limit text bytes y → x ≡ y
 message_unique limit text bytes x y (crowded c e) (crowded d f) = e ∙ sym f

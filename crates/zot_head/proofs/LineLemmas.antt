@@ -22,7 +22,7 @@ pub map_add : (o : Option ℕ) (k n : ℕ) → option_map (λ m. k + m) o ≡ So
 map_add None k n e = absurd cc
 map_add (Some m) k n e = (m, refl, cc)
 
--- what tells of an end: it stays with more bytes after, and lies within the bytes
+-- the end of a part of a message: it stays with more bytes after, and lies within the bytes
 pub record IsEnd (part_end : List ℕ → Option ℕ) : Type 0 where
   pub stays : (a b : List ℕ) (n : ℕ) → part_end a ≡ Some n → part_end (a ++ b) ≡ Some n
   pub within : (a : List ℕ) (n : ℕ) → part_end a ≡ Some n → (0 < n) × (n ≤ length a)
@@ -169,8 +169,8 @@ IsSettled Passes = Unit {0}
 IsSettled Goes = ⊥
 
 -- the same, or the bytes so far, and some of those after
-take_behind : (limit : ℕ) (a b : List ℕ) → (limit ≤ length a) × (take limit (a ++ b) ≡ take limit a) ⊎ (length a < limit) × ((c : List ℕ) × (take limit (a ++ b) ≡ take limit a ++ c))
-take_behind limit a b =
+take_after : (limit : ℕ) (a b : List ℕ) → (limit ≤ length a) × (take limit (a ++ b) ≡ take limit a) ⊎ (length a < limit) × ((c : List ℕ) × (take limit (a ++ b) ≡ take limit a ++ c))
+take_after limit a b =
     elim (cases_lt (length a) limit) [
       | inl lt ↦
           let k : limit ≡ length a + (limit - length a) = omega arith in
@@ -181,7 +181,7 @@ take_behind limit a b =
 
 pub extent_stays : (part_end : List ℕ → Option ℕ) (limit : ℕ) (a b : List ℕ) → IsEnd part_end → IsSettled (extent part_end limit a) → extent part_end limit (a ++ b) ≡ extent part_end limit a
 extent_stays part_end limit a b is h =
-    elim (take_behind limit a b) [
+    elim (take_after limit a b) [
       | inl p ↦ rw p.1 (settled (part_end (take limit a)) (leb limit (length a)) (leb limit (length (a ++ b))) (grind (arith, nat_tests, length-append a b)))
       | inr p ↦ rw p.1.1 (longer (part_end (take limit a)) (part_end (take limit a ++ p.1.0)) (leb limit (length a)) (leb limit (length (a ++ b))) (λ n e. is.stays (take limit a) p.1.0 n e) (grind (arith, nat_tests)) h)
     ]
@@ -205,9 +205,9 @@ extent_within part_end limit n a is h =
     found None false e = absurd cc
 
 -- a section's end after the empty lines in front
-pub head_end-behind : (bytes : List ℕ) (blank : ℕ) (o : Option ℕ) → blank ≡ blank_len bytes → o ≡ section_end false (take (length bytes - blank) (drop blank bytes))
+pub head_end-after : (bytes : List ℕ) (blank : ℕ) (o : Option ℕ) → blank ≡ blank_len bytes → o ≡ section_end false (take (length bytes - blank) (drop blank bytes))
     → option_map (λ n. blank + n) o ≡ head_end bytes
-head_end-behind bytes blank o is e =
+head_end-after bytes blank o is e =
     let all : take (length bytes - blank) (drop blank bytes) ≡ drop blank bytes = take_all (length bytes - blank) (drop blank bytes) (omega (arith, length-drop blank bytes)) in
     rw (e, all, is) refl
 

@@ -7,9 +7,9 @@ use Rattle.std.proofs.Math.Seq.{drop-append-add}
 use Rattle.zot_head.specs.declared.chunk_error.ChunkError.{ChunkError}
 use Rattle.zot_head.specs.declared.chunk_error.ChunkError.TheVariants.{NoMemory}
 use Rattle.zot_head.specs.declared.fed.Fed.{Fed}
-use Rattle.zot_head.specs.Chunked.{Body, Whole, Unfinished, Broken, behind}
+use Rattle.zot_head.specs.Chunked.{Body, Whole, Unfinished, Broken, body_after}
 use Rattle.zot_head.specs.Progress.{Progress, reading, Advances, Stops, AnswersOk, AnswersErr, Feeds}
-use Rattle.zot_head.proofs.ProgressLemmas.{behind-append, advances-piece}
+use Rattle.zot_head.proofs.ProgressLemmas.{body_after-append, advances-piece}
 
 -- nothing stays where the body isn't done
 all_taken : (body : Body) (bytes : List ℕ) (fed : Fed) (x y : List ℕ) → AnswersOk body bytes fed x y → fed.done ≡ false → fed.taken ≡ length bytes
@@ -24,11 +24,11 @@ goes_to : (old new : Progress) (bytes : List ℕ) (fed : Fed) (x y : List ℕ) �
 goes_to old new bytes fed x y is e = subst (λ (r : List ℕ). Advances old bytes new r x y) (none_left old new bytes fed x y is e) is.goes_on
 
 -- more bytes after a body that is done
-pub fed-behind : (old new : Progress) (bytes piece : List ℕ) (fed : Fed) (x y : List ℕ) → Feeds old bytes (Ok fed) new x y → fed.done ≡ true → Feeds old (bytes ++ piece) (Ok fed) new x y
-fed-behind old new bytes piece fed x y is e =
+pub fed-after : (old new : Progress) (bytes piece : List ℕ) (fed : Fed) (x y : List ℕ) → Feeds old bytes (Ok fed) new x y → fed.done ≡ true → Feeds old (bytes ++ piece) (Ok fed) new x y
+fed-after old new bytes piece fed x y is e =
     let cut : drop fed.taken (bytes ++ piece) ≡ drop fed.taken bytes ++ piece = drop-append-le fed.taken bytes piece is.within in
     let says : reading old (bytes ++ piece) ≡ Whole (is.goes_on.given ++ []) (drop fed.taken bytes ++ piece) =
-    is.goes_on.same piece ∙ ap (behind is.goes_on.given) (is.finished e (drop fed.taken bytes ++ piece)) in
+    is.goes_on.same piece ∙ ap (body_after is.goes_on.given) (is.finished e (drop fed.taken bytes ++ piece)) in
     record {
       answers = rw says (e, omega (arith, is.within, length-append bytes piece), sym cut, is.goes_on.out ∙ ap (λ (g : List ℕ). x ++ g) (sym (append-nil is.goes_on.given)));
       within = omega (arith, is.within, length-append bytes piece);
@@ -36,7 +36,7 @@ fed-behind old new bytes piece fed x y is e =
         given = is.goes_on.given;
         out = is.goes_on.out;
         same = λ more. rw cut (ap (reading old) (append_assoc bytes piece more) ∙ is.goes_on.same (piece ++ more)
-            ∙ ap (λ (r : List ℕ). behind is.goes_on.given (reading new r)) (sym (append_assoc (drop fed.taken bytes) piece more)));
+            ∙ ap (λ (r : List ℕ). body_after is.goes_on.given (reading new r)) (sym (append_assoc (drop fed.taken bytes) piece more)));
       };
       finished = is.finished;
       failed = tt;
@@ -46,14 +46,14 @@ fed-behind old new bytes piece fed x y is e =
 abbrev pub both : Fed → Fed → Fed
 both fed next = record { taken = fed.taken + next.taken; done = next.done }
 
-ok_behind : (body : Body) (given bytes piece : List ℕ) (fed next : Fed) (x y z : List ℕ) → AnswersOk body piece next y z → fed.taken ≡ length bytes → y ≡ x ++ given
-    → AnswersOk (behind given body) (bytes ++ piece) (both fed next) x z
-ok_behind (Whole more rest) given bytes piece fed next x y z ok all out =
+ok_after : (body : Body) (given bytes piece : List ℕ) (fed next : Fed) (x y z : List ℕ) → AnswersOk body piece next y z → fed.taken ≡ length bytes → y ≡ x ++ given
+    → AnswersOk (body_after given body) (bytes ++ piece) (both fed next) x z
+ok_after (Whole more rest) given bytes piece fed next x y z ok all out =
     let cut : drop (fed.taken + next.taken) (bytes ++ piece) ≡ drop next.taken piece = ap (λ (n : ℕ). drop (n + next.taken) (bytes ++ piece)) all ∙ drop-append-add bytes piece next.taken in
     (ok.0, omega (arith, all, ok.1, length-append bytes piece), ok.2 ∙ sym cut, ok.3 ∙ ap (λ (w : List ℕ). w ++ more) out ∙ append_assoc x given more)
-ok_behind (Unfinished more) given bytes piece fed next x y z ok all out =
+ok_after (Unfinished more) given bytes piece fed next x y z ok all out =
     (ok.0, omega (arith, all, ok.1, length-append bytes piece), ok.2 ∙ ap (λ (w : List ℕ). w ++ more) out ∙ append_assoc x given more)
-ok_behind (Broken more error) given bytes piece fed next x y z ok all out = absurd ok
+ok_after (Broken more error) given bytes piece fed next x y z ok all out = absurd ok
 
 -- one piece more
 pub fed-then : (old mid new : Progress) (bytes piece : List ℕ) (fed next : Fed) (x y z : List ℕ) → Feeds old bytes (Ok fed) mid x y → fed.done ≡ false → Feeds mid piece (Ok next) new y z
@@ -63,21 +63,21 @@ fed-then old mid new bytes piece fed next x y z is e then =
     let on = goes_to old mid bytes fed x y is e in
     let cut : drop (fed.taken + next.taken) (bytes ++ piece) ≡ drop next.taken piece = ap (λ (n : ℕ). drop (n + next.taken) (bytes ++ piece)) all ∙ drop-append-add bytes piece next.taken in
     record {
-      answers = rw (on.same piece) (ok_behind (reading mid piece) on.given bytes piece fed next x y z then.answers all on.out);
+      answers = rw (on.same piece) (ok_after (reading mid piece) on.given bytes piece fed next x y z then.answers all on.out);
       within = omega (arith, all, then.within, length-append bytes piece);
       goes_on = rw cut (advances-piece old mid new bytes piece (drop next.taken piece) x y z on then.goes_on);
       finished = then.finished;
       failed = tt;
     }
 
-err_behind : (body : Body) (given : List ℕ) (error : ChunkError) (x y z : List ℕ) → AnswersErr body error y z → y ≡ x ++ given → AnswersErr (behind given body) error x z
-err_behind (Whole more rest) given error x y z h out = h
-err_behind (Unfinished more) given error x y z h out = h
-err_behind (Broken more broken) given error x y z h out = (h.0, h.1 ∙ ap (λ (w : List ℕ). w ++ more) out ∙ append_assoc x given more)
+err_after : (body : Body) (given : List ℕ) (error : ChunkError) (x y z : List ℕ) → AnswersErr body error y z → y ≡ x ++ given → AnswersErr (body_after given body) error x z
+err_after (Whole more rest) given error x y z h out = h
+err_after (Unfinished more) given error x y z h out = h
+err_after (Broken more broken) given error x y z h out = (h.0, h.1 ∙ ap (λ (w : List ℕ). w ++ more) out ∙ append_assoc x given more)
 
 -- where a body was read so far, bytes after are read from there
 regroup : (old mid : Progress) (bytes piece others more x y : List ℕ) (on : Advances old bytes mid [] x y)
-    → reading old (((bytes ++ piece) ++ others) ++ more) ≡ behind on.given (reading mid (piece ++ (others ++ more)))
+    → reading old (((bytes ++ piece) ++ others) ++ more) ≡ body_after on.given (reading mid (piece ++ (others ++ more)))
 regroup old mid bytes piece others more x y on =
     ap (reading old) (append_assoc (bytes ++ piece) others more ∙ append_assoc bytes piece (others ++ more)) ∙ on.same (piece ++ (others ++ more))
 
@@ -85,20 +85,20 @@ regroup old mid bytes piece others more x y on =
 pub failed-then : (old mid new : Progress) (bytes piece others : List ℕ) (fed : Fed) (error : ChunkError) (x y z : List ℕ) → Feeds old bytes (Ok fed) mid x y → fed.done ≡ false
     → Feeds mid piece (Err error) new y z → Feeds old ((bytes ++ piece) ++ others) (Err error) new x z
 failed-then old mid new bytes piece others fed error x y z is e err =
-    record { answers = λ more. told more (goes_to old mid bytes fed x y is e) (err.answers (others ++ more)); within = tt; goes_on = tt; finished = tt; failed = err.failed }
+    record { answers = λ more. said more (goes_to old mid bytes fed x y is e) (err.answers (others ++ more)); within = tt; goes_on = tt; finished = tt; failed = err.failed }
   where
-    told : (more : List ℕ) → Advances old bytes mid [] x y
+    said : (more : List ℕ) → Advances old bytes mid [] x y
         → AnswersErr (reading mid (piece ++ (others ++ more))) error y z ⊎ ((error ≡ NoMemory) × Stops (reading mid (piece ++ (others ++ more))) y z)
         → AnswersErr (reading old (((bytes ++ piece) ++ others) ++ more)) error x z ⊎ ((error ≡ NoMemory) × Stops (reading old (((bytes ++ piece) ++ others) ++ more)) x z)
-    told more on (inl shown) = inl (rw (regroup old mid bytes piece others more x y on) (err_behind (reading mid (piece ++ (others ++ more))) on.given error x y z shown on.out))
-    told more on (inr (want, stop)) =
+    said more on (inl shown) = inl (rw (regroup old mid bytes piece others more x y on) (err_after (reading mid (piece ++ (others ++ more))) on.given error x y z shown on.out))
+    said more on (inr (want, stop)) =
         inr (
           want,
           record {
             given = on.given ++ stop.given;
             out = stop.out ∙ ap (λ (w : List ℕ). w ++ stop.given) on.out ∙ append_assoc x on.given stop.given;
             next = stop.next;
-            front = regroup old mid bytes piece others more x y on ∙ ap (behind on.given) stop.front ∙ sym (behind-append on.given stop.given stop.next);
+            front = regroup old mid bytes piece others more x y on ∙ ap (body_after on.given) stop.front ∙ sym (body_after-append on.given stop.given stop.next);
             owes = stop.owes;
           },
         )

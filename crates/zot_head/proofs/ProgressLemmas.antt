@@ -11,7 +11,7 @@ use Rattle.zot_head.specs.declared.stage.LineSoFar.{LineSoFar}
 use Rattle.zot_head.specs.declared.stage.LineSoFar.TheVariants.{Start, Return, Inside}
 use Rattle.zot_head.specs.declared.stage.Stage.{Stage}
 use Rattle.zot_head.specs.declared.stage.Stage.TheVariants.{Line, Bytes, Tail, Trailer, Done, Failed}
-use Rattle.zot_head.specs.Chunked.{size_of, Body, Whole, Unfinished, Broken, behind, from_trailer, from_tail, from_bytes, from_size, chunked}
+use Rattle.zot_head.specs.Chunked.{size_of, Body, Whole, Unfinished, Broken, body_after, from_trailer, from_tail, from_bytes, from_size, chunked}
 use Rattle.zot_head.specs.Limits.{chunk_line_limit, trailer_limit}
 use Rattle.zot_head.specs.Lines.{line_end, Ends, Passes, Goes, extent_of, extent}
 use Rattle.zot_head.specs.Progress.{trailer_end, Progress, reading_at, reading, IsSound, goes_on, Advances, seen, Feeds}
@@ -133,15 +133,15 @@ reading_at-nil (Trailer so_far left) room line sound goes = trailer-goes so_far 
 reading_at-nil Done room line sound goes = absurd goes
 reading_at-nil (Failed error) room line sound goes = absurd goes
 
-pub behind-nil : (body : Body) → behind [] body ≡ body
-behind-nil (Whole given rest) = refl
-behind-nil (Unfinished given) = refl
-behind-nil (Broken given error) = refl
+pub body_after-nil : (body : Body) → body_after [] body ≡ body
+body_after-nil (Whole given rest) = refl
+body_after-nil (Unfinished given) = refl
+body_after-nil (Broken given error) = refl
 
-pub behind-append : (a b : List ℕ) (body : Body) → behind (a ++ b) body ≡ behind a (behind b body)
-behind-append a b (Whole given rest) = ap (λ (x : List ℕ). Whole x rest) (append_assoc a b given)
-behind-append a b (Unfinished given) = ap Unfinished (append_assoc a b given)
-behind-append a b (Broken given error) = ap (λ (x : List ℕ). Broken x error) (append_assoc a b given)
+pub body_after-append : (a b : List ℕ) (body : Body) → body_after (a ++ b) body ≡ body_after a (body_after b body)
+body_after-append a b (Whole given rest) = ap (λ (x : List ℕ). Whole x rest) (append_assoc a b given)
+body_after-append a b (Unfinished given) = ap Unfinished (append_assoc a b given)
+body_after-append a b (Broken given error) = ap (λ (x : List ℕ). Broken x error) (append_assoc a b given)
 
 -- one byte of a trailer section on, where it may have so many bytes
 pub trailer-next : (before after : List ℕ → Option ℕ) (left b : ℕ) (bytes : List ℕ) → 0 < left → ((xs : List ℕ) → before (b ∷ xs) ≡ option_map suc (after xs))
@@ -154,7 +154,7 @@ trailer-next before after (suc left) b bytes lt e =
 -- ---- bytes of a chunk
 
 -- some of a chunk's bytes on
-pub from_bytes-append : (next : List ℕ → Body) (size : ℕ) (a bytes : List ℕ) → length a ≤ size → from_bytes next size (a ++ bytes) ≡ behind a (from_bytes next (size - length a) bytes)
+pub from_bytes-append : (next : List ℕ → Body) (size : ℕ) (a bytes : List ℕ) → length a ≤ size → from_bytes next size (a ++ bytes) ≡ body_after a (from_bytes next (size - length a) bytes)
 from_bytes-append next size a bytes le =
     let k : size ≡ length a + (size - length a) = omega arith in
     let tests : ltb (length (a ++ bytes)) size ≡ ltb (length bytes) (size - length a) = grind (arith, nat_tests, length-append a bytes) in
@@ -162,15 +162,15 @@ from_bytes-append next size a bytes le =
     let back : drop size (a ++ bytes) ≡ drop (size - length a) bytes = ap (λ (n : ℕ). drop n (a ++ bytes)) k ∙ drop-append-add a bytes (size - length a) in
     rw (tests, front, back) (step (ltb (length bytes) (size - length a)))
   where
-    step : (t : Bool) → cond t (Unfinished (a ++ bytes)) (behind (a ++ take (size - length a) bytes) (from_tail next (drop (size - length a) bytes)))
-        ≡ behind a (cond t (Unfinished bytes) (behind (take (size - length a) bytes) (from_tail next (drop (size - length a) bytes))))
+    step : (t : Bool) → cond t (Unfinished (a ++ bytes)) (body_after (a ++ take (size - length a) bytes) (from_tail next (drop (size - length a) bytes)))
+        ≡ body_after a (cond t (Unfinished bytes) (body_after (take (size - length a) bytes) (from_tail next (drop (size - length a) bytes))))
     step true = refl
-    step false = behind-append a (take (size - length a) bytes) (from_tail next (drop (size - length a) bytes))
+    step false = body_after-append a (take (size - length a) bytes) (from_tail next (drop (size - length a) bytes))
 
 pub from_bytes-zero : (next : List ℕ → Body) (bytes : List ℕ) → from_bytes next 0 bytes ≡ from_tail next bytes
 from_bytes-zero next bytes =
     let long : ltb (length bytes) 0 ≡ false = grind (arith, nat_tests) in
-    rw long (behind-nil (from_tail next bytes))
+    rw long (body_after-nil (from_tail next bytes))
 
 -- the piece, and what comes after it, cut within the piece
 cut_piece : (n : ℕ) (piece more : List ℕ) → piece ++ more ≡ take n piece ++ (drop n piece ++ more)
@@ -184,10 +184,10 @@ advances-bytes old new size n piece before after was room le within now out =
     len : length (take n piece) ≡ n
     len = omega (arith, within, length-take n piece)
 
-    on : (bytes : List ℕ) → from_bytes (chunked old.room) size (take n piece ++ bytes) ≡ behind (take n piece) (reading_at new.stage new.room new.line bytes)
+    on : (bytes : List ℕ) → from_bytes (chunked old.room) size (take n piece ++ bytes) ≡ body_after (take n piece) (reading_at new.stage new.room new.line bytes)
     on bytes =
         from_bytes-append (chunked old.room) size (take n piece) bytes (omega (arith, len, le))
-        ∙ ap (behind (take n piece)) (elim now [
+        ∙ ap (body_after (take n piece)) (elim now [
           | inl h ↦
               let nothing : size - length (take n piece) ≡ 0 = omega (arith, len, h.1) in
               rw (nothing, h.0, room) (from_bytes-zero (chunked old.room) bytes)
@@ -200,7 +200,7 @@ bytes-seen next zero bytes s b = absurd (omega arith)
 bytes-seen next (suc size) [] s b = absurd (omega arith)
 bytes-seen next (suc size) (x ∷ bytes) s b = step (ltb (suc (length bytes)) (suc size)) (from_tail next (drop size bytes))
   where
-    step : (t : Bool) (tail : Body) → 0 < length (seen (cond t (Unfinished (x ∷ bytes)) (behind (x ∷ take size bytes) tail)))
+    step : (t : Bool) (tail : Body) → 0 < length (seen (cond t (Unfinished (x ∷ bytes)) (body_after (x ∷ take size bytes) tail)))
     step true tail = omega arith
     step false (Whole given rest) = omega arith
     step false (Unfinished given) = omega arith
@@ -216,16 +216,16 @@ advances-piece a b c bytes piece last x y z one two = record {
   given = one.given ++ two.given;
   out = two.out ∙ ap (λ (w : List ℕ). w ++ two.given) one.out ∙ append_assoc x one.given two.given;
   same = λ more.
-      ap (reading a) (append_assoc bytes piece more) ∙ one.same (piece ++ more) ∙ ap (behind one.given) (two.same more)
-      ∙ sym (behind-append one.given two.given (reading c (last ++ more)));
+      ap (reading a) (append_assoc bytes piece more) ∙ one.same (piece ++ more) ∙ ap (body_after one.given) (two.same more)
+      ∙ sym (body_after-append one.given two.given (reading c (last ++ more)));
 }
 
 -- ---- what a call answers
 
 -- what the piece says, where nothing comes after it
-says : (old new : Progress) (piece rest x y : List ℕ) (next : Body) (on : Advances old piece new rest x y) → reading new rest ≡ next → reading old piece ≡ behind on.given next
+says : (old new : Progress) (piece rest x y : List ℕ) (next : Body) (on : Advances old piece new rest x y) → reading new rest ≡ next → reading old piece ≡ body_after on.given next
 says old new piece rest x y next on e =
-    ap (reading old) (sym (append-nil piece)) ∙ on.same [] ∙ ap (λ (r : List ℕ). behind on.given (reading new r)) (append-nil rest) ∙ ap (behind on.given) e
+    ap (reading old) (sym (append-nil piece)) ∙ on.same [] ∙ ap (λ (r : List ℕ). body_after on.given (reading new r)) (append-nil rest) ∙ ap (body_after on.given) e
 
 more_out : (x y given : List ℕ) → y ≡ x ++ given → y ≡ x ++ (given ++ [])
 more_out x y given e = e ∙ ap (λ (g : List ℕ). x ++ g) (sym (append-nil given))

@@ -1,4 +1,4 @@
--- Reading a head: its lines, the spans of its parts, and when bytes are none.
+-- Reading a head: its lines, the spans in it, and when bytes are none.
 use Rattle.std.proofs.Common.{◌≡◌, ℕ, ◌+◌, ◌<◌, ◌≤◌, Bool, true, false, IsTrue, List, [], ◌∷◌, length, map, take, drop, refl, sym, ap, subst, ◌∙◌, arith, inl, inr, Some, None, ltb}
 use Rattle.std.specs.Prelude.{All, IsUtf8, Result, Err}
 use Rattle.std.proofs.lemmas.List.{append-nil, take_all, drop_all, length-drop}
@@ -17,7 +17,7 @@ use Rattle.zot_head.specs.declared.head.Head.{Head}
 use Rattle.zot_head.specs.declared.head_error.HeadError.{HeadError}
 use Rattle.zot_head.specs.declared.head_error.HeadError.TheVariants.{Bad, TooLong, NoMemory}
 use Rattle.zot_head.specs.Fields.{framing_of}
-use Rattle.zot_head.specs.Front.{field_of, IsCrowded, HasParts, IsHead, IsNoHead}
+use Rattle.zot_head.specs.Front.{field_of, IsCrowded, IsHeadOf, IsHead, IsNoHead}
 use Rattle.zot_head.specs.Limits.{line_limit}
 use Rattle.zot_head.specs.Lines.{head_end, lines_in}
 use Rattle.zot_head.specs.Spans.{field_at, HasTexts}
@@ -87,14 +87,14 @@ no_head-framing bytes h few reads none =
       none = λ head is.
           let same = request_unique bytes is.request h [] [] is.reads reads in
           let framed : framing_of (map field_of h.fields) ≡ Some head.framing =
-          ap (λ (k : RequestHead). framing_of (map field_of k.fields)) (sym same.0) ∙ ap framing_of (sym is.parts.fields) ∙ is.parts.framing in
+          ap (λ (k : RequestHead). framing_of (map field_of k.fields)) (sym same.0) ∙ ap framing_of (sym is.head_is.fields) ∙ is.head_is.framing in
           absurd (clash head none framed);
     }
   where
     clash : (head : Head) → framing_of (map field_of h.fields) ≡ None → framing_of (map field_of h.fields) ≡ Some head.framing → ⊥
     clash head a b = cc
 
--- ---- the parts of a request
+-- ---- the spans of a request
 
 token_is_ascii : (b : ℕ) → IsTrue (is_token_byte b) → b < 128
 unfolding is_token_byte
@@ -155,8 +155,8 @@ texts_at bytes spans r h within at =
 pub whole_request : (bytes : List ℕ) (spans : List HeaderSpan) (r : RequestSpans) (h : RequestHead) → length bytes ≤ r.len → IsRequestAt bytes spans r h → ReadsRequest bytes h []
 whole_request bytes spans r h le at = subst (λ (rest : List ℕ). ReadsRequest bytes h rest) (drop_all r.len bytes le) at.reads
 
-pub is_head : (bytes : List ℕ) (spans : List HeaderSpan) (r : RequestSpans) (h : RequestHead) (head : Head) → ¬ (IsCrowded bytes) → length bytes ≤ r.len → IsRequestAt bytes spans r h → HasParts h head → IsHead bytes head
-is_head bytes spans r h head few le at parts = record { few_lines = few; request = h; reads = whole_request bytes spans r h le at; parts = parts }
+pub is_head : (bytes : List ℕ) (spans : List HeaderSpan) (r : RequestSpans) (h : RequestHead) (head : Head) → ¬ (IsCrowded bytes) → length bytes ≤ r.len → IsRequestAt bytes spans r h → IsHeadOf h head → IsHead bytes head
+is_head bytes spans r h head few le at is = record { few_lines = few; request = h; reads = whole_request bytes spans r h le at; head_is = is }
 
 pub is_no_head : (bytes : List ℕ) (spans : List HeaderSpan) (r : RequestSpans) (h : RequestHead) → ¬ (IsCrowded bytes) → length bytes ≤ r.len → IsRequestAt bytes spans r h
     → framing_of (map field_of h.fields) ≡ None → IsNoHead bytes

@@ -6,7 +6,7 @@ use Rattle.std.proofs.lemmas.Bool.Decides.{nat_tests}
 use Rattle.zot_head.specs.declared.chunk_error.ChunkError.TheVariants.{Bad, TooLarge}
 use Rattle.zot_head.specs.Limits.{chunk_line_limit, trailer_limit}
 use Rattle.zot_head.specs.Lines.{line_end, section_end, Extent, Ends, Passes, Goes, extent}
-use Rattle.zot_head.specs.Chunked.{size_of, Body, Whole, Unfinished, Broken, behind, from_trailer, from_tail, from_bytes, from_size, from_line, chunked, Chunk, print_chunk, IsSizeLine, IsChunk, IsTrailer, IsSent}
+use Rattle.zot_head.specs.Chunked.{size_of, Body, Whole, Unfinished, Broken, body_after, from_trailer, from_tail, from_bytes, from_size, from_line, chunked, Chunk, print_chunk, IsSizeLine, IsChunk, IsTrailer, IsSent}
 use Rattle.zot_head.proofs.LineLemmas.{chosen, line_end_is, section_end_is, line_end_cut, section_end_cut, extent_within, extent_ends_at, ends_found}
 use Rattle.zot_head.proofs.ChunkLemmas.{chunked_is}
 use Rattle.zot_head.proofs.ProgressLemmas.{from_bytes-append, from_bytes-zero}
@@ -22,7 +22,7 @@ from_size-some : (room size : ℕ) (bytes : List ℕ) → 0 < size → size ≤ 
 from_size-some room zero bytes some le = absurd (omega arith)
 from_size-some room (suc k) bytes some le = let within : ltb room (suc k) ≡ false = grind (arith, nat_tests) in rw within refl
 
-read-chunk : (room : ℕ) (c : Chunk) (bytes : List ℕ) → IsChunk c → length c.bytes ≤ room → chunked room (print_chunk c ++ bytes) ≡ behind c.bytes (chunked (room - length c.bytes) bytes)
+read-chunk : (room : ℕ) (c : Chunk) (bytes : List ℕ) → IsChunk c → length c.bytes ≤ room → chunked room (print_chunk c ++ bytes) ≡ body_after c.bytes (chunked (room - length c.bytes) bytes)
 read-chunk room c bytes is le =
     let nothing : length c.bytes - length c.bytes ≡ 0 = omega arith in
     let whole : print_chunk c ++ bytes ≡ c.line ++ (c.bytes ++ (13 ∷ 10 ∷ bytes)) = append_assoc c.line (c.bytes ++ 13 ∷ 10 ∷ []) bytes ∙ ap (λ (x : List ℕ). c.line ++ x) (append_assoc c.bytes (13 ∷ 10 ∷ []) bytes) in
@@ -30,7 +30,7 @@ read-chunk room c bytes is le =
     ∙ read-line room (length c.bytes) c.line (c.bytes ++ (13 ∷ 10 ∷ bytes)) is.line
     ∙ from_size-some room (length c.bytes) (c.bytes ++ (13 ∷ 10 ∷ bytes)) is.some le
     ∙ from_bytes-append (chunked (room - length c.bytes)) (length c.bytes) c.bytes (13 ∷ 10 ∷ bytes) (omega arith)
-    ∙ ap (behind c.bytes) (rw nothing (from_bytes-zero (chunked (room - length c.bytes)) (13 ∷ 10 ∷ bytes)))
+    ∙ ap (body_after c.bytes) (rw nothing (from_bytes-zero (chunked (room - length c.bytes)) (13 ∷ 10 ∷ bytes)))
 
 read-last : (room : ℕ) (last trailer rest : List ℕ) → IsSizeLine last 0 → IsTrailer trailer → chunked room (last ++ (trailer ++ rest)) ≡ Whole [] rest
 read-last room last trailer rest line is =
@@ -45,7 +45,7 @@ read-sent room (c ∷ cs) last trailer rest each line is le =
     let parts = length-append c.bytes (flat_map (λ d. d.bytes) cs) in
     ap (chunked room) (append_assoc (print_chunk c) (flat_map print_chunk cs) (last ++ (trailer ++ rest)))
     ∙ read-chunk room c (flat_map print_chunk cs ++ (last ++ (trailer ++ rest))) each.0 (omega (arith, parts, le))
-    ∙ ap (behind c.bytes) (read-sent (room - length c.bytes) cs last trailer rest each.1 line is (omega (arith, parts, le)))
+    ∙ ap (body_after c.bytes) (read-sent (room - length c.bytes) cs last trailer rest each.1 line is (omega (arith, parts, le)))
 
 -- What was sent as a body in chunks is read as that body, whatever follows.
 pub sent_is_read : (room : ℕ) (text body rest : List ℕ) → IsSent text body → length body ≤ room → chunked room (text ++ rest) ≡ Whole body rest
@@ -86,7 +86,7 @@ trailer_cut n bytes e =
 abbrev Sound : ℕ → Type 0
 Sound n = (room : ℕ) (bytes body rest : List ℕ) → length bytes < n → chunked room bytes ≡ Whole body rest → Reads room bytes body rest
 
-whole_parts : (given : List ℕ) (b : Body) (body rest : List ℕ) → behind given b ≡ Whole body rest → (more : List ℕ) × (b ≡ Whole more rest) × (body ≡ given ++ more)
+whole_parts : (given : List ℕ) (b : Body) (body rest : List ℕ) → body_after given b ≡ Whole body rest → (more : List ℕ) × (b ≡ Whole more rest) × (body ≡ given ++ more)
 whole_parts given (Whole more last) body rest e = (more, cc, cc)
 whole_parts given (Unfinished more) body rest e = absurd cc
 whole_parts given (Broken more error) body rest e = absurd cc
@@ -114,7 +114,7 @@ reads-last : (room n m : ℕ) (bytes body rest : List ℕ) → extent line_end c
     → extent (section_end true) trailer_limit (drop n bytes) ≡ Ends m → Whole [] (drop m (drop n bytes)) ≡ Whole body rest → Reads room bytes body rest
 reads-last room n m bytes body rest e s t w =
     let nothing : body ≡ [] = cc in
-    let behind_all : drop m (drop n bytes) ≡ rest = cc in
+    let all_after : drop m (drop n bytes) ≡ rest = cc in
     record {
       text = take n bytes ++ take m (drop n bytes);
       sent = record {
@@ -128,7 +128,7 @@ reads-last room n m bytes body rest e s t w =
         body_is = nothing;
       };
       short = omega (arith, ap length nothing);
-      whole = sym (take-append-drop n bytes) ∙ ap (λ (x : List ℕ). take n bytes ++ x) (sym (take-append-drop m (drop n bytes)) ∙ ap (λ (x : List ℕ). take m (drop n bytes) ++ x) behind_all)
+      whole = sym (take-append-drop n bytes) ∙ ap (λ (x : List ℕ). take n bytes ++ x) (sym (take-append-drop m (drop n bytes)) ∙ ap (λ (x : List ℕ). take m (drop n bytes) ++ x) all_after)
           ∙ sym (append_assoc (take n bytes) (take m (drop n bytes)) rest);
     }
 
@@ -173,7 +173,7 @@ reads-step n room bytes body rest lt sound h = by_line (extent line_end chunk_li
     by_trailer k q s Goes t w = absurd cc
 
     by_bytes : (k j : ℕ) → extent line_end chunk_line_limit bytes ≡ Ends k → size_of (take k bytes) ≡ Some (suc j) → (t u : Bool) → ltb room (suc j) ≡ t → ltb (length (drop k bytes)) (suc j) ≡ u
-        → cond t (Broken [] TooLarge) (cond u (Unfinished (drop k bytes)) (behind (take (suc j) (drop k bytes)) (from_tail (chunked (room - suc j)) (drop (suc j) (drop k bytes))))) ≡ Whole body rest
+        → cond t (Broken [] TooLarge) (cond u (Unfinished (drop k bytes)) (body_after (take (suc j) (drop k bytes)) (from_tail (chunked (room - suc j)) (drop (suc j) (drop k bytes))))) ≡ Whole body rest
         → Reads room bytes body rest
     by_bytes k j q s true u a b w = absurd cc
     by_bytes k j q s false true a b w = absurd cc

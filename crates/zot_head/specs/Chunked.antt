@@ -49,10 +49,10 @@ pub data Body : Type 0 where
   Broken : List ℕ → ChunkError → Body
 
 -- the same with these bytes of the body in front
-abbrev pub behind : List ℕ → Body → Body
-behind given (Whole body rest) = Whole (given ++ body) rest
-behind given (Unfinished body) = Unfinished (given ++ body)
-behind given (Broken body error) = Broken (given ++ body) error
+abbrev pub body_after : List ℕ → Body → Body
+body_after given (Whole body rest) = Whole (given ++ body) rest
+body_after given (Unfinished body) = Unfinished (given ++ body)
+body_after given (Broken body error) = Broken (given ++ body) error
 
 -- the trailer section, which is dropped: lines through the first empty one
 abbrev pub from_trailer : Extent → List ℕ → Body
@@ -70,7 +70,7 @@ from_tail next (a ∷ b ∷ bytes) = if a == carriage_return && b == line_feed t
 abbrev pub from_bytes : (List ℕ → Body) → ℕ → List ℕ → Body
 from_bytes next size bytes =
     if nat_lt (length bytes) size then Unfinished bytes
-    else behind (take size bytes) (from_tail next (drop size bytes))
+    else body_after (take size bytes) (from_tail next (drop size bytes))
 
 -- what stands after a chunk's line of that size, where so many bytes of a body are left
 abbrev pub from_size : (ℕ → List ℕ → Body) → ℕ → Option ℕ → List ℕ → Body

@@ -21,8 +21,8 @@ IsCrowded bytes = (n : ℕ) × (head_end bytes ≡ Some n) × (line_limit + 2 < 
 abbrev pub field_of : FieldLine → Field
 field_of line = record { name = line.name; value = field_value line }
 
--- the head has the parts of that request, and what its fields say
-pub record HasParts (h : RequestHead) (head : Head) : Type 0 where
+-- the head has the method, the target and the fields of that request, and what these fields say
+pub record IsHeadOf (h : RequestHead) (head : Head) : Type 0 where
   pub method : head.method ≡ h.method
   pub target : head.target ≡ h.target
   pub fields : head.fields ≡ map field_of h.fields
@@ -35,7 +35,7 @@ pub record IsHead (text : List ℕ) (head : Head) : Type 0 where
   pub few_lines : ¬ (IsCrowded text)
   pub request : RequestHead
   pub reads : ReadsRequest text request []
-  pub parts : HasParts request head
+  pub head_is : IsHeadOf request head
 
 -- these bytes are no head: they have few enough lines, and aren't one for another cause
 pub record IsNoHead (text : List ℕ) : Type 0 where
@@ -54,7 +54,7 @@ pub data Front : Type 0 where
   Refused : Refusal → Front
   Partial : Front
 
--- The refusal of a body in chunks. Bytes are never refused for want of memory, so the last case stands for
+-- The refusal of a body in chunks. Bytes are never refused because memory ran out, so the last case stands for
 -- nothing (`refused_for_its_bytes`): a message has no refusal for it, and the readers' errors have it.
 abbrev pub refusal_of : ChunkError → Refusal
 refusal_of errors.Bad = HeadInvalid

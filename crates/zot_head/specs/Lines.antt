@@ -33,7 +33,7 @@ blank_len (a ∷ b ∷ bytes) =
 abbrev pub head_end : List ℕ → Option ℕ
 head_end bytes = option_map (λ n. blank_len bytes + n) (section_end false (drop (blank_len bytes) bytes))
 
--- how many lines end in the bytes, those that are empty in front apart
+-- how many lines end in the bytes, without the empty ones in front
 abbrev pub lines_in : List ℕ → ℕ
 lines_in bytes = count_by (λ b. b == line_feed) (drop (blank_len bytes) bytes)
 

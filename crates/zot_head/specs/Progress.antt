@@ -8,7 +8,7 @@ use Rattle.zot_head.specs.declared.stage.LineSoFar.{LineSoFar}
 use Rattle.zot_head.specs.declared.stage.LineSoFar.TheVariants.{Start, Return, Inside}
 use Rattle.zot_head.specs.declared.stage.Stage.{Stage}
 use Rattle.zot_head.specs.declared.stage.Stage.TheVariants.{Line, Bytes, Tail, Trailer, Done, Failed}
-use Rattle.zot_head.specs.Chunked.{Body, Whole, Unfinished, Broken, behind, from_trailer, from_tail, from_bytes, chunked}
+use Rattle.zot_head.specs.Chunked.{Body, Whole, Unfinished, Broken, body_after, from_trailer, from_tail, from_bytes, chunked}
 use Rattle.zot_head.specs.Limits.{chunk_line_limit}
 use Rattle.zot_head.specs.Lines.{line_end, section_end, extent}
 
@@ -71,7 +71,7 @@ goes_on (Failed error) = false
 pub record Advances (old : Progress) (bytes : List ℕ) (new : Progress) (rest before after : List ℕ) : Type 0 where
   pub given : List ℕ
   pub out : after ≡ before ++ given
-  pub same : (more : List ℕ) → reading old (bytes ++ more) ≡ behind given (reading new (rest ++ more))
+  pub same : (more : List ℕ) → reading old (bytes ++ more) ≡ body_after given (reading new (rest ++ more))
 
 -- what a call answers that isn't an error, and gives out, where the piece says that of the body
 abbrev pub AnswersOk : Body → List ℕ → Fed → List ℕ → List ℕ → Type 0
@@ -98,7 +98,7 @@ pub record Stops (body : Body) (before after : List ℕ) : Type 0 where
   pub given : List ℕ
   pub out : after ≡ before ++ given
   pub next : Body
-  pub front : body ≡ behind given next
+  pub front : body ≡ body_after given next
   pub owes : 0 < length (seen next)
 
 -- What a call answers and gives out. An error is the one that the piece shows, whatever comes after it, or

@@ -106,9 +106,9 @@ impl Chunks {
     }
 
     /// Reads the next piece, and adds the body's bytes in it to `out`. `done` comes with the last byte of
-    /// the trailer section; `taken` tells how many bytes belong to the body in chunks, and until then all
-    /// of the piece do. An error is answered again at each later call, and what was given out before it
-    /// stays. `NoMemory` comes first only where the piece has a byte of the body that isn't given out.
+    /// the trailer section. `taken` says how many of the piece's bytes belong to the body in chunks; until
+    /// the body is whole, all do. An error is answered again at each later call, and what was given out
+    /// before it stays. `NoMemory` comes first only where the piece has a byte of the body that isn't given out.
     pub fn feed(&mut self, piece: &[u8], out: &mut Vec<u8>) -> Result<Fed, ChunkError>
         ensures { Feeds self.old piece.now result self.new out.old.items out.new.items }
     {
@@ -126,8 +126,8 @@ impl Chunks {
         }
     }
 
-    /// Reads several pieces, one after another. It answers and gives out what one call over all of their
-    /// bytes would, however they were cut.
+    /// Reads several pieces, one after another. It answers and gives out what one call over all their bytes
+    /// would, however they were cut.
     pub fn feed_all(&mut self, pieces: &[Vec<u8>], out: &mut Vec<u8>) -> Result<Fed, ChunkError>
         requires { length (flat_map (λ piece. piece.items) pieces.now) < 2 ^ 64 }
         ensures { Feeds self.old (flat_map (λ piece. piece.items) pieces.now) result self.new

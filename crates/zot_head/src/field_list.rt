@@ -4,7 +4,7 @@ use crate::field::Field;
 use std::marker::Model;
 
 /// The fields of a head, in their order. Contracts see the list.
-#[derive(Debug, Drop)]
+#[derive(Drop)]
 pub struct FieldList {
     items: Vec<Field>,
 }

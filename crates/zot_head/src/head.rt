@@ -3,7 +3,7 @@ use crate::framing::Framing;
 use zot_digest::Words;
 
 /// The head of a request.
-#[derive(Debug, Drop)]
+#[derive(Drop)]
 pub struct Head {
     /// The method, as it stands (RFC 9112, section 3.1).
     pub method: Words,

@@ -2,7 +2,7 @@ use std::alloc::AllocError;
 use thiserror::Error;
 
 /// Why bytes aren't read as a head.
-#[derive(Clone, Copy, Debug, PartialEq, Eq, Error)]
+#[derive(Clone, Copy, Debug, Error)]
 pub enum HeadError {
     /// They aren't a request's head (RFC 9112, sections 3 to 5), or its fields don't frame one body
     /// (section 6.3).

@@ -38,7 +38,7 @@ pub fn only_sent_is_read()
         → (text : List ℕ) × IsSent text body × (length body ≤ limit) × (bytes ≡ text ++ rest) }
 {}
 
-/// Bytes are never refused as a body in chunks for want of memory: that is told by calls alone.
+/// Bytes are never refused as a body in chunks because memory ran out: only calls answer that.
 pub fn refused_for_its_bytes()
     ensures { (limit : ℕ) (bytes body : List ℕ)
         → chunked limit bytes ≡ Broken body errors.NoMemory → ⊥ }

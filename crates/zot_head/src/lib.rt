@@ -1,4 +1,8 @@
-//! Heads and bodies of HTTP/1.1 requests, in this registry's profile of RFC 9112.
+//! Heads and bodies of HTTP/1.1 requests, in this registry's profile of RFC 9112: where a message's head ends, what it
+//! says of its body and its connection, and bodies in chunks, read piece by piece.
+//!
+//! `find_head(b"GET /v2/ HTTP/1.1\r\n\r\n..")` gives `Found::Head(21)`, and `read_head` of these 21 bytes a `Head` with the
+//! method `GET`, the target `/v2/` and `Framing::None`.
 #![tactic(auto)]
 
 mod after;

@@ -58,7 +58,7 @@ pub(crate) fn head_end(bytes: &[u8]) -> Option<usize>
     }
 }
 
-/// How many lines end in the bytes, those that are empty in front apart.
+/// How many lines end in the bytes, without the empty ones in front.
 pub(crate) fn lines_in(bytes: &[u8]) -> usize
     ensures { result ≡ lines_in_of bytes.now }
 {

@@ -2,7 +2,7 @@
 ghost use Rattle.std.specs.Prelude.{◌≡◌, ◌≢◌, ◌↔◌, [], length, map, IsTrue, IsUtf8, IfOk, All};
 ghost use Rattle.httparse.specs.Grammar.{RequestHead, ReadsRequest};
 ghost use Rattle.httparse.specs.Spans.{span_bytes, IsWithin, IsHeaderWithin, IsRequestWithin, IsRequestAt};
-ghost use Rattle.zot_head.specs.Front.{field_of as field_of_line, IsCrowded, IsHead, IsNoHead, HasParts};
+ghost use Rattle.zot_head.specs.Front.{field_of as field_of_line, IsCrowded, IsHead, IsNoHead, IsHeadOf};
 ghost use Rattle.zot_head.specs.Fields.{framing_of};
 ghost use Rattle.zot_head.specs.Spans.{field_at, HasTexts};
 
@@ -75,9 +75,9 @@ fn head_of(
     spans: &[HeaderSpan],
 ) -> Result<Head, HeadError>
     requires within { IsRequestWithin bytes.now spans.now request.now }
-    requires parts { (h : RequestHead) × IsRequestAt bytes.now spans.now request.now h }
+    requires reads { (h : RequestHead) × IsRequestAt bytes.now spans.now request.now h }
     ensures head { IfOk result (λ head. (h : RequestHead)
-        × IsRequestAt bytes.now spans.now request.now h × HasParts h head) }
+        × IsRequestAt bytes.now spans.now request.now h × IsHeadOf h head) }
     ensures bad { result ≡ Err HeadError.Bad → (h : RequestHead)
         × IsRequestAt bytes.now spans.now request.now h
         × (framing_of (map field_of_line h.fields) ≡ None) }

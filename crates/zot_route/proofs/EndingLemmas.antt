@@ -6,7 +6,7 @@ use Rattle.std.specs.Prelude.{Option, MatchOption, ◌&&◌, ◌⊎◌, if◌the
 use Rattle.std.proofs.lemmas.Slice.Eq.{bytes_eq-Decides}
 use Rattle.std.specs.Str.{bytes_eq}
 use Rattle.zot_route.specs.Ending.{Read, ends_in_two, ends_in_three, or_three, read_back}
-use Rattle.zot_route.specs.Path.{IsBehind, IsEnding, IsPath}
+use Rattle.zot_route.specs.Path.{IsAfterVersion, IsEnding, IsPath}
 use Rattle.zot_route.specs.declared.form.Form.{Form}
 use Rattle.zot_route.specs.declared.form.Form.TheVariants as forms
 
@@ -66,7 +66,7 @@ unfolding ends_in_three
 upload_three name [] n = absurd (n refl)
 upload_three name (c ∷ text) n = refl
 
--- a path whose last two parts tell its form
+-- a path whose last two segments say its form
 by_two : (name rest : List (List ℕ)) (kind text : List ℕ) (read : Read) → rest ≡ kind ∷ text ∷ [] → ends_in_two name kind text ≡ Some read
     → read_back (reverse (name ++ rest)) ≡ Some read
 by_two name rest kind text read e f =
@@ -98,14 +98,14 @@ by_form forms.Uploads name rest text (a, inr e) = no_text forms.Uploads name res
 by_form forms.Upload name rest text (n, e) = by_three name rest text _ e (upload_three name text n)
 by_form forms.Blob name rest text (n, e) = by_two name rest (codes "blobs") text _ e (blob_two name text (other_texts text (codes "uploads") n))
 
-pub read_as : (behind : List (List ℕ)) (form : Form) (name : List (List ℕ)) (text : List ℕ) → IsBehind behind form name text
-    → read_back (reverse behind) ≡ Some (form, name, text)
-read_as behind form name text h = ap (λ b. read_back (reverse b)) h.spelled ∙ by_form form name h.ending text h.ends
+pub read_as : (after : List (List ℕ)) (form : Form) (name : List (List ℕ)) (text : List ℕ) → IsAfterVersion after form name text
+    → read_back (reverse after) ≡ Some (form, name, text)
+read_as after form name text h = ap (λ b. read_back (reverse b)) h.spelled ∙ by_form form name h.ending text h.ends
 
 -- ---- what is read is a path
 
 abbrev IsRead : List (List ℕ) → Read → Type 0
-IsRead behind read = IsBehind behind read.0 read.1 read.2
+IsRead after read = IsAfterVersion after read.0 read.1 read.2
 
 module _ (name : List (List ℕ)) (kind text : List ℕ) (read : Read) where
   end_two : (form : Form) (words : List ℕ) → (form, name, words) ≡ read → IsEnding form name words (kind ∷ text ∷ []) → IsRead (name ++ kind ∷ text ∷ []) read
@@ -185,27 +185,27 @@ back_sound ((c ∷ text) ∷ []) read e = cc e
 back_sound (text ∷ kind ∷ more) read e =
     or_sound (ends_in_two (reverse more) kind text) more kind text read (λ r. two_sound (reverse more) kind text r) e
 
-pub is_read : (behind : List (List ℕ)) (read : Read) → read_back (reverse behind) ≡ Some read → IsBehind behind read.0 read.1 read.2
-is_read behind read e = subst (λ b. IsRead b read) (reverse-reverse behind) (back_sound (reverse behind) read e)
+pub is_read : (after : List (List ℕ)) (read : Read) → read_back (reverse after) ≡ Some read → IsAfterVersion after read.0 read.1 read.2
+is_read after read e = subst (λ b. IsRead b read) (reverse-reverse after) (back_sound (reverse after) read e)
 
 -- ---- at most one
 
-pub path_one : (parts : List (List ℕ)) (form other : Form) (name more : List (List ℕ)) (text words : List ℕ) → IsPath parts form name text → IsPath parts other more words
+pub path_one : (segments : List (List ℕ)) (form other : Form) (name more : List (List ℕ)) (text words : List ℕ) → IsPath segments form name text → IsPath segments other more words
     → (form ≡ other) × (name ≡ more) × (text ≡ words)
-path_one parts form other name more text words h k =
-    let same : h.behind ≡ k.behind = cc (h.spelled, k.spelled) in
-    let one = read_as h.behind form name text h.is in
-    let two = read_as k.behind other more words k.is in
+path_one segments form other name more text words h k =
+    let same : h.after ≡ k.after = cc (h.spelled, k.spelled) in
+    let one = read_as h.after form name text h.is in
+    let two = read_as k.after other more words k.is in
     let here : Read = (form, name, text) in
     let there : Read = (other, more, words) in
     let both : here ≡ there = cc (sym one ∙ ap (λ b. read_back (reverse b)) same ∙ two) in
     (ap (λ r. r.0) both, ap (λ r. r.1) both, ap (λ r. r.2) both)
 
-pub path_read : (parts behind : List (List ℕ)) (read : Option Read) → parts ≡ [] ∷ codes "v2" ∷ behind → read ≡ read_back (reverse behind)
-    → MatchOption read ((form : Form) (name : List (List ℕ)) (text : List ℕ) → ¬ IsPath parts form name text) (λ path. IsPath parts path.0 path.1 path.2)
-path_read parts behind None e f = λ form name text h.
-    let same : h.behind ≡ behind = cc (h.spelled, e) in
-    let some = read_as h.behind form name text h.is in
+pub path_read : (segments after : List (List ℕ)) (read : Option Read) → segments ≡ [] ∷ codes "v2" ∷ after → read ≡ read_back (reverse after)
+    → MatchOption read ((form : Form) (name : List (List ℕ)) (text : List ℕ) → ¬ IsPath segments form name text) (λ path. IsPath segments path.0 path.1 path.2)
+path_read segments after None e f = λ form name text h.
+    let same : h.after ≡ after = cc (h.spelled, e) in
+    let some = read_as h.after form name text h.is in
     let none = f ∙ ap (λ b. read_back (reverse b)) (sym same) ∙ some in
     cc none
-path_read parts behind (Some path) e f = record { behind = behind; spelled = e; is = is_read behind path (sym f) }
+path_read segments after (Some path) e f = record { after = after; spelled = e; is = is_read after path (sym f) }

@@ -1,5 +1,5 @@
 pub mod EndingLemmas
-pub mod PartLemmas
+pub mod SegmentLemmas
 pub mod LineLemmas
 pub mod ManifestLemmas
 pub mod NameLemmas

@@ -26,15 +26,16 @@ use Rattle.zot_names.specs.Tag.{IsTag, is_tag_byte}
 use Rattle.zot_names.specs.Upload.{upload_text}
 use Rattle.zot_names.proofs.ByteLemmas.{tag_bytes}
 use Rattle.zot_names.proofs.UploadLemmas.{decode_sized-upload_text}
-use Rattle.zot_route.specs.Asked.{Asked, AsksManifest, IsFrom, IsId, IsReference, Puts, Refers, asks_post, asks_upload, on_reference, verb_of}
+use Rattle.zot_route.specs.Calls.{CallOrRefusal, IsFrom, IsId, IsManifestCall, IsPutCall, IsReference, Refers, on_reference, post_call, upload_call}
 use Rattle.zot_route.specs.Lines.{AreMedia, AreMediaBy, is_hop, range_of}
-use Rattle.zot_route.specs.Path.{IsPath, parts_of}
-use Rattle.zot_route.specs.Routes.{Asks, HasNoPath, Names, Routes, RoutesPath, in_query, routed_as}
+use Rattle.zot_route.specs.Methods.{method_of}
+use Rattle.zot_route.specs.Path.{IsPath, segments_of}
+use Rattle.zot_route.specs.Routes.{IsCall, HasNoPath, Names, Routes, RoutesPath, in_query, routed_as}
 use Rattle.zot_route.specs.declared.form.Form.{Form}
 use Rattle.zot_route.specs.declared.form.Form.TheVariants as forms
 use Rattle.zot_route.specs.declared.routed.Routed.{Routed}
-use Rattle.zot_route.specs.declared.verb.Verb.{Verb}
-use Rattle.zot_route.specs.declared.verb.Verb.TheVariants.{Delete, Get, Head as HeadVerb, Other, Patch, Post, Put}
+use Rattle.zot_route.specs.declared.method.Method.{Method}
+use Rattle.zot_route.specs.declared.method.Method.TheVariants.{Delete, Get, Head as HeadMethod, Other, Patch, Post, Put}
 use Rattle.zot_route.proofs.EndingLemmas.{path_one}
 use Rattle.zot_route.proofs.RouteLemmas.{if_ok}
 
@@ -88,31 +89,31 @@ media_one : (fields : List Field) (body : List ℕ) (media other : Option Media)
 unfolding AreMedia
 media_one fields body media other h k = media_by_one (values_of (codes "content-type") fields) body media other h k
 
--- ---- a manifest is asked one thing
+-- ---- a manifest is given one thing
 
-puts_one : (fields : List Field) (body : List ℕ) (reference : Result Reference Reply) (asked other : Asked) → Puts fields body reference asked → Puts fields body reference other → asked ≡ other
-puts_one fields body (Err reply) asked other h k = h ∙ sym k
-puts_one fields body (Ok reference) asked other (inl h) (inl k) = h.1 ∙ sym k.1
-puts_one fields body (Ok reference) asked other (inl h) (inr (le, media, are, e)) = let above = h.0 in absurd (omega arith)
-puts_one fields body (Ok reference) asked other (inr (le, media, are, e)) (inl k) = let above = k.0 in absurd (omega arith)
-puts_one fields body (Ok reference) asked other (inr (le, media, are, e)) (inr (most, more, be, f)) =
+puts_one : (fields : List Field) (body : List ℕ) (reference : Result Reference Reply) (given other : CallOrRefusal) → IsPutCall fields body reference given → IsPutCall fields body reference other → given ≡ other
+puts_one fields body (Err reply) given other h k = h ∙ sym k
+puts_one fields body (Ok reference) given other (inl h) (inl k) = h.1 ∙ sym k.1
+puts_one fields body (Ok reference) given other (inl h) (inr (le, media, are, e)) = let above = h.0 in absurd (omega arith)
+puts_one fields body (Ok reference) given other (inr (le, media, are, e)) (inl k) = let above = k.0 in absurd (omega arith)
+puts_one fields body (Ok reference) given other (inr (le, media, are, e)) (inr (most, more, be, f)) =
     e ∙ ap (λ (m : Option Media). Ok (calls.PutManifest reference m body)) (media_one fields body media more are be) ∙ sym f
 
-call_one : (call : Reference → Call) (text : List ℕ) (bad : Reply) (asked other : Asked)
-    → (r : Result Reference Reply) × Refers text bad r × (asked ≡ on_reference call r)
-    → (r : Result Reference Reply) × Refers text bad r × (other ≡ on_reference call r) → asked ≡ other
-call_one call text bad asked other (r, h, e) (s, k, f) = e ∙ ap (on_reference call) (refers_one text bad r s h k) ∙ sym f
+call_one : (call : Reference → Call) (text : List ℕ) (bad : Reply) (given other : CallOrRefusal)
+    → (r : Result Reference Reply) × Refers text bad r × (given ≡ on_reference call r)
+    → (r : Result Reference Reply) × Refers text bad r × (other ≡ on_reference call r) → given ≡ other
+call_one call text bad given other (r, h, e) (s, k, f) = e ∙ ap (on_reference call) (refers_one text bad r s h k) ∙ sym f
 
-manifest_one : (verb : Verb) (text : List ℕ) (fields : List Field) (body : List ℕ) (asked other : Asked)
-    → AsksManifest verb text fields body asked → AsksManifest verb text fields body other → asked ≡ other
-manifest_one Get text fields body asked other h k = call_one calls.GetManifest text (refusal ManifestUnknown) asked other h k
-manifest_one HeadVerb text fields body asked other h k = call_one calls.HeadManifest text (refusal ManifestUnknown) asked other h k
-manifest_one Delete text fields body asked other h k = call_one calls.DeleteManifest text (refusal ManifestUnknown) asked other h k
-manifest_one Put text fields body asked other (r, h, e) (s, k, f) =
-    puts_one fields body s asked other (subst (λ x. Puts fields body x asked) (refers_one text (refusal ManifestInvalid) r s h k) e) f
-manifest_one Post text fields body asked other h k = h ∙ sym k
-manifest_one Patch text fields body asked other h k = h ∙ sym k
-manifest_one Other text fields body asked other h k = h ∙ sym k
+manifest_one : (method : Method) (text : List ℕ) (fields : List Field) (body : List ℕ) (given other : CallOrRefusal)
+    → IsManifestCall method text fields body given → IsManifestCall method text fields body other → given ≡ other
+manifest_one Get text fields body given other h k = call_one calls.GetManifest text (refusal ManifestUnknown) given other h k
+manifest_one HeadMethod text fields body given other h k = call_one calls.HeadManifest text (refusal ManifestUnknown) given other h k
+manifest_one Delete text fields body given other h k = call_one calls.DeleteManifest text (refusal ManifestUnknown) given other h k
+manifest_one Put text fields body given other (r, h, e) (s, k, f) =
+    puts_one fields body s given other (subst (λ x. IsPutCall fields body x given) (refers_one text (refusal ManifestInvalid) r s h k) e) f
+manifest_one Post text fields body given other h k = h ∙ sym k
+manifest_one Patch text fields body given other h k = h ∙ sym k
+manifest_one Other text fields body given other h k = h ∙ sym k
 
 -- ---- so is an upload
 
@@ -139,56 +140,56 @@ id_one text (Some id) (Some other) h k = ap Some (same_number id other h.0 k.0 (
 
 -- ---- and each form of a path
 
-asks_one : (form : Form) (text : List ℕ) (head : Head) (body : List ℕ) (asked other : Asked) → Asks form text head body asked → Asks form text head body other → asked ≡ other
-asks_one forms.Base text head body asked other h k = h ∙ sym k
-asks_one forms.Tags text head body asked other h k = h ∙ sym k
-asks_one forms.Referrers text head body asked other h k = h ∙ sym k
-asks_one forms.Manifest text head body asked other h k = manifest_one (verb_of head.method) text head.fields body asked other h k
-asks_one forms.Uploads text head body asked other (from, is, e) (more, are, f) =
+is_call_one : (form : Form) (text : List ℕ) (head : Head) (body : List ℕ) (given other : CallOrRefusal) → IsCall form text head body given → IsCall form text head body other → given ≡ other
+is_call_one forms.Base text head body given other h k = h ∙ sym k
+is_call_one forms.Tags text head body given other h k = h ∙ sym k
+is_call_one forms.Referrers text head body given other h k = h ∙ sym k
+is_call_one forms.Manifest text head body given other h k = manifest_one (method_of head.method) text head.fields body given other h k
+is_call_one forms.Uploads text head body given other (from, is, e) (more, are, f) =
     let same : from ≡ more = from_one (in_query head (codes "from")) from more is are in
-    e ∙ ap (λ (x : Option (List ℕ)). asks_post (verb_of head.method) (in_query head (codes "mount")) x (in_query head (codes "digest")) body) same ∙ sym f
-asks_one forms.Upload text head body asked other (id, is, e) (more, are, f) =
+    e ∙ ap (λ (x : Option (List ℕ)). post_call (method_of head.method) (in_query head (codes "mount")) x (in_query head (codes "digest")) body) same ∙ sym f
+is_call_one forms.Upload text head body given other (id, is, e) (more, are, f) =
     let same : id ≡ more = id_one text id more is are in
-    e ∙ ap (λ (x : Option ℕ). asks_upload (verb_of head.method) x (range_of head.fields) (in_query head (codes "digest")) body) same ∙ sym f
-asks_one forms.Blob text head body asked other h k = h ∙ sym k
+    e ∙ ap (λ (x : Option ℕ). upload_call (method_of head.method) x (range_of head.fields) (in_query head (codes "digest")) body) same ∙ sym f
+is_call_one forms.Blob text head body given other h k = h ∙ sym k
 
-names_one : (form : Form) (parts : List (List ℕ)) (name other : Option (List ℕ)) → Names form parts name → Names form parts other → name ≡ other
-names_one forms.Base parts name other h k = h ∙ sym k
-names_one forms.Tags parts name other h k = h.0 ∙ sym k.0
-names_one forms.Referrers parts name other h k = h.0 ∙ sym k.0
-names_one forms.Manifest parts name other h k = h.0 ∙ sym k.0
-names_one forms.Uploads parts name other h k = h.0 ∙ sym k.0
-names_one forms.Upload parts name other h k = h.0 ∙ sym k.0
-names_one forms.Blob parts name other h k = h.0 ∙ sym k.0
+names_one : (form : Form) (segments : List (List ℕ)) (name other : Option (List ℕ)) → Names form segments name → Names form segments other → name ≡ other
+names_one forms.Base segments name other h k = h ∙ sym k
+names_one forms.Tags segments name other h k = h.0 ∙ sym k.0
+names_one forms.Referrers segments name other h k = h.0 ∙ sym k.0
+names_one forms.Manifest segments name other h k = h.0 ∙ sym k.0
+names_one forms.Uploads segments name other h k = h.0 ∙ sym k.0
+names_one forms.Upload segments name other h k = h.0 ∙ sym k.0
+names_one forms.Blob segments name other h k = h.0 ∙ sym k.0
 
 -- ---- and each message
 
-form_one : (form : Form) (parts : List (List ℕ)) (text : List ℕ) (head : Head) (body : List ℕ) (routed other : Routed)
-    → RoutesPath form parts text head body routed → RoutesPath form parts text head body other → routed ≡ other
-form_one form parts text head body routed other (inl h) (inl k) = h.1 ∙ sym k.1
-form_one form parts text head body routed other (inl h) (inr (name, named, asked, asks, e)) = absurd (h.0 name named)
-form_one form parts text head body routed other (inr (name, named, asked, asks, e)) (inl k) = absurd (k.0 name named)
-form_one form parts text head body routed other (inr (name, named, asked, asks, e)) (inr (more, names, told, tells, f)) =
+form_one : (form : Form) (segments : List (List ℕ)) (text : List ℕ) (head : Head) (body : List ℕ) (routed other : Routed)
+    → RoutesPath form segments text head body routed → RoutesPath form segments text head body other → routed ≡ other
+form_one form segments text head body routed other (inl h) (inl k) = h.1 ∙ sym k.1
+form_one form segments text head body routed other (inl h) (inr (name, named, given, call_is, e)) = absurd (h.0 name named)
+form_one form segments text head body routed other (inr (name, named, given, call_is, e)) (inl k) = absurd (k.0 name named)
+form_one form segments text head body routed other (inr (name, named, given, call_is, e)) (inr (more, names, said, says, f)) =
     e
-    ∙ ap (λ (n : Option (List ℕ)). routed_as n (is_hop head.fields) asked) (names_one form parts name more named names)
-    ∙ ap (routed_as more (is_hop head.fields)) (asks_one form text head body asked told asks tells)
+    ∙ ap (λ (n : Option (List ℕ)). routed_as n (is_hop head.fields) given) (names_one form segments name more named names)
+    ∙ ap (routed_as more (is_hop head.fields)) (is_call_one form text head body given said call_is says)
     ∙ sym f
 
-not_both : (target : List ℕ) (form : Form) (parts : List (List ℕ)) (text : List ℕ) → HasNoPath target → AllByRecursion IsUtf8 (parts_of target)
-    → ¬ IsPath (parts_of target) form parts text
-not_both target form parts text (inl none) all is = none all
-not_both target form parts text (inr none) all is = none form parts text is
+not_both : (target : List ℕ) (form : Form) (segments : List (List ℕ)) (text : List ℕ) → HasNoPath target → AllByRecursion IsUtf8 (segments_of target)
+    → ¬ IsPath (segments_of target) form segments text
+not_both target form segments text (inl none) all is = none all
+not_both target form segments text (inr none) all is = none form segments text is
 
 pub routes_one : (head : Head) (body : List ℕ) (routed other : Routed) → Routes head body routed → Routes head body other → routed ≡ other
 routes_one head body routed other (inl h) (inl k) = h.1 ∙ sym k.1
-routes_one head body routed other (inl h) (inr (all, form, parts, text, is, r)) = absurd (not_both head.target form parts text h.0 all is)
-routes_one head body routed other (inr (all, form, parts, text, is, r)) (inl k) = absurd (not_both head.target form parts text k.0 all is)
-routes_one head body routed other (inr (all, form, parts, text, is, h)) (inr (every, shape, more, words, are, k)) =
-    let one = path_one (parts_of head.target) form shape parts more text words is are in
-    let there : RoutesPath form parts text head body other =
-    subst (λ f. RoutesPath f parts text head body other) (sym one.0)
+routes_one head body routed other (inl h) (inr (all, form, segments, text, is, r)) = absurd (not_both head.target form segments text h.0 all is)
+routes_one head body routed other (inr (all, form, segments, text, is, r)) (inl k) = absurd (not_both head.target form segments text k.0 all is)
+routes_one head body routed other (inr (all, form, segments, text, is, h)) (inr (every, shape, more, words, are, k)) =
+    let one = path_one (segments_of head.target) form shape segments more text words is are in
+    let there : RoutesPath form segments text head body other =
+    subst (λ f. RoutesPath f segments text head body other) (sym one.0)
     (subst (λ p. RoutesPath shape p text head body other) (sym one.1) (subst (λ t. RoutesPath shape more t head body other) (sym one.2) k)) in
-    form_one form parts text head body routed other h there
+    form_one form segments text head body routed other h there
 
 -- what is answered is the only outcome
 pub answer_one : (head : Head) (body : List ℕ) (result : Result Routed AllocError) (other : Routed) → IfOk result (Routes head body) → Routes head body other

@@ -18,46 +18,48 @@ use Rattle.zot_model.specs.declared.call.Call.TheVariants as calls
 use Rattle.zot_model.specs.declared.code.Code.TheVariants.{DigestInvalid, ManifestInvalid, ManifestUnknown}
 use Rattle.zot_model.specs.declared.reply.Reply.{Reply}
 use Rattle.zot_model.specs.declared.span.Span.{Span}
+use Rattle.zot_model.specs.Calls.{is_head}
 use Rattle.zot_model.specs.Fits.{Declines}
 use Rattle.zot_model.specs.Refusals.{refusal}
 use Rattle.zot_model.specs.Valid.{IsShort, IsSpan, IsValid, IsValidCall, body_limit}
-use Rattle.zot_route.specs.Asked.{Asked, AsksManifest, Puts, Refers, asks_base, asks_blob, asks_post, asks_referrers, asks_tags, asks_upload, digest_or, finish_of, needed_digest, on_digest, on_reference, optional_digest, page_of, patch_of, post_of, range_or, some_digest, some_number, verb_of}
+use Rattle.zot_route.specs.Calls.{CallOrRefusal, IsManifestCall, IsPutCall, Refers, base_call, blob_call, digest_or, finish_of, needed_digest, on_digest, on_reference, optional_digest, page_of, patch_of, post_call, post_of, range_or, referrers_call, some_digest, some_number, tags_call, upload_call}
 use Rattle.zot_route.specs.Lines.{range_by, range_of, some_span, span_by, span_of}
 use Rattle.zot_route.specs.Routed.{IfRefused, IfRequest}
-use Rattle.zot_route.specs.Routes.{Asks, Names, Routes, RoutesPath, routed_as}
+use Rattle.zot_route.specs.Methods.{hides_body, method_of}
+use Rattle.zot_route.specs.Routes.{HidesAlike, IsCall, Names, Routes, RoutesPath, routed_as}
 use Rattle.zot_route.proofs.RouteLemmas.{if_ok}
 use Rattle.zot_route.specs.declared.form.Form.{Form}
 use Rattle.zot_route.specs.declared.form.Form.TheVariants as forms
 use Rattle.zot_route.specs.declared.routed.Routed.{Routed}
-use Rattle.zot_route.specs.declared.verb.Verb.{Verb}
-use Rattle.zot_route.specs.declared.verb.Verb.TheVariants.{Delete, Get, Head as HeadVerb, Other, Patch, Post, Put}
+use Rattle.zot_route.specs.declared.method.Method.{Method}
+use Rattle.zot_route.specs.declared.method.Method.TheVariants.{Delete, Get, Head as HeadMethod, Other, Patch, Post, Put}
 
--- a call of a repository that is valid, where the body keeps its limit, or a refusal that a message may have
-abbrev pub IsFine : List ℕ → Asked → Type 0
-IsFine body (Ok call) = (length body ≤ body_limit → IsValidCall call) × (call ≢ calls.Base)
-IsFine body (Err reply) = Declines reply
+-- a call of a repository that is valid, where the body keeps its limit, and of HEAD where that is the method; or a refusal that a message may have
+abbrev pub IsFine : Method → List ℕ → CallOrRefusal → Type 0
+IsFine method body (Ok call) = (length body ≤ body_limit → IsValidCall call) × (call ≢ calls.Base) × (is_head call ≡ hides_body method)
+IsFine method body (Err reply) = Declines reply
 
 -- a refusal that a message may have, if it is one
 abbrev pub IsDeclined : {X : Type 0} → Result X Reply → Type 0
 IsDeclined (Ok x) = ⊤
 IsDeclined (Err reply) = Declines reply
 
-digest_fine : (body : List ℕ) (call : List ℕ → Call) (found : Option (List ℕ)) → ((digest : List ℕ) → IsFine body (Ok (call digest))) → IsFine body (on_digest call (digest_or found))
-digest_fine body call (Some digest) h = h digest
-digest_fine body call None h = (refl, tt)
+digest_fine : (method : Method) (body : List ℕ) (call : List ℕ → Call) (found : Option (List ℕ)) → ((digest : List ℕ) → IsFine method body (Ok (call digest))) → IsFine method body (on_digest call (digest_or found))
+digest_fine method body call (Some digest) h = h digest
+digest_fine method body call None h = (refl, tt)
 
-blob_fine : (body : List ℕ) (verb : Verb) (text : List ℕ) → IsFine body (asks_blob verb text)
-blob_fine body Get text = digest_fine body calls.GetBlob (digest_named text) (λ d. ((λ le. tt), λ e. cc e))
-blob_fine body HeadVerb text = digest_fine body calls.HeadBlob (digest_named text) (λ d. ((λ le. tt), λ e. cc e))
-blob_fine body Delete text = digest_fine body calls.DeleteBlob (digest_named text) (λ d. ((λ le. tt), λ e. cc e))
+blob_fine : (body : List ℕ) (method : Method) (text : List ℕ) → IsFine method body (blob_call method text)
+blob_fine body Get text = digest_fine Get body calls.GetBlob (digest_named text) (λ d. ((λ le. tt), (λ e. cc e), refl))
+blob_fine body HeadMethod text = digest_fine HeadMethod body calls.HeadBlob (digest_named text) (λ d. ((λ le. tt), (λ e. cc e), refl))
+blob_fine body Delete text = digest_fine Delete body calls.DeleteBlob (digest_named text) (λ d. ((λ le. tt), (λ e. cc e), refl))
 blob_fine body Put text = inr (inl (refl, tt))
 blob_fine body Post text = inr (inl (refl, tt))
 blob_fine body Patch text = inr (inl (refl, tt))
 blob_fine body Other text = inr (inl (refl, tt))
 
-referrers_fine : (body : List ℕ) (verb : Verb) (text : List ℕ) (filter : Option (List ℕ)) → IsFine body (asks_referrers verb text filter)
-referrers_fine body Get text filter = digest_fine body (λ d. calls.Referrers d filter) (digest_named text) (λ d. ((λ le. tt), λ e. cc e))
-referrers_fine body HeadVerb text filter = inr (inl (refl, tt))
+referrers_fine : (body : List ℕ) (method : Method) (text : List ℕ) (filter : Option (List ℕ)) → IsFine method body (referrers_call method text filter)
+referrers_fine body Get text filter = digest_fine Get body (λ d. calls.Referrers d filter) (digest_named text) (λ d. ((λ le. tt), (λ e. cc e), refl))
+referrers_fine body HeadMethod text filter = inr (inl (refl, tt))
 referrers_fine body Put text filter = inr (inl (refl, tt))
 referrers_fine body Post text filter = inr (inl (refl, tt))
 referrers_fine body Patch text filter = inr (inl (refl, tt))
@@ -95,14 +97,14 @@ short_number : (value : List ℕ) (n : ℕ) → length_of value ≡ Some n → I
 unfolding length_of
 short_number value n e = short_by value n _ (nat_le (length value) 18) (list_all is_ascii_digit value) e (le_of (length value) 18) (λ h. h)
 
-page_fine : (body : List ℕ) (last : Option (List ℕ)) (found : Option ℕ) → ((n : ℕ) → found ≡ Some n → IsShort n) → IsFine body (page_of last (some_number found))
-page_fine body last (Some n) h = ((λ le. h n refl), λ e. cc e)
+page_fine : (body : List ℕ) (last : Option (List ℕ)) (found : Option ℕ) → ((n : ℕ) → found ≡ Some n → IsShort n) → IsFine Get body (page_of last (some_number found))
+page_fine body last (Some n) h = ((λ le. h n refl), (λ e. cc e), refl)
 page_fine body last None h = inr (inr (refl, tt))
 
-tags_fine : (body : List ℕ) (verb : Verb) (n last : Option (List ℕ)) → IsFine body (asks_tags verb n last)
-tags_fine body Get None last = ((λ le. tt), λ e. cc e)
+tags_fine : (body : List ℕ) (method : Method) (n last : Option (List ℕ)) → IsFine method body (tags_call method n last)
+tags_fine body Get None last = ((λ le. tt), (λ e. cc e), refl)
 tags_fine body Get (Some text) last = page_fine body last (length_of text) (short_number text)
-tags_fine body HeadVerb n last = inr (inl (refl, tt))
+tags_fine body HeadMethod n last = inr (inl (refl, tt))
 tags_fine body Put n last = inr (inl (refl, tt))
 tags_fine body Post n last = inr (inl (refl, tt))
 tags_fine body Patch n last = inr (inl (refl, tt))
@@ -161,36 +163,36 @@ text_fine None = (refl, tt)
 text_fine (Some text) = needed_fine (digest_named text)
 
 post_by : (from : Option (List ℕ)) (body : List ℕ) (mount digest : Result (Option (List ℕ)) Reply) → IsDeclined mount → IsDeclined digest
-    → IsFine body (post_of from body mount digest)
+    → IsFine Post body (post_of from body mount digest)
 post_by from body (Err reply) digest h k = h
 post_by from body (Ok mount) (Err reply) h k = k
-post_by from body (Ok mount) (Ok digest) h k = ((λ le. le), λ e. cc e)
+post_by from body (Ok mount) (Ok digest) h k = ((λ le. le), (λ e. cc e), refl)
 
-post_fine : (verb : Verb) (mount from digest : Option (List ℕ)) (body : List ℕ) → IsFine body (asks_post verb mount from digest body)
+post_fine : (method : Method) (mount from digest : Option (List ℕ)) (body : List ℕ) → IsFine method body (post_call method mount from digest body)
 post_fine Post mount from digest body = post_by from body (optional_digest mount) (optional_digest digest) (optional_fine mount) (optional_fine digest)
 post_fine Get mount from digest body = inr (inl (refl, tt))
-post_fine HeadVerb mount from digest body = inr (inl (refl, tt))
+post_fine HeadMethod mount from digest body = inr (inl (refl, tt))
 post_fine Put mount from digest body = inr (inl (refl, tt))
 post_fine Patch mount from digest body = inr (inl (refl, tt))
 post_fine Delete mount from digest body = inr (inl (refl, tt))
 post_fine Other mount from digest body = inr (inl (refl, tt))
 
-patch_by : (id : Option ℕ) (body : List ℕ) (range : Option (Option Span)) → IsRange range → IsFine body (patch_of id body (range_or range))
+patch_by : (id : Option ℕ) (body : List ℕ) (range : Option (Option Span)) → IsRange range → IsFine Patch body (patch_of id body (range_or range))
 patch_by id body None h = (refl, tt)
-patch_by id body (Some range) h = ((λ le. (h, le)), λ e. cc e)
+patch_by id body (Some range) h = ((λ le. (h, le)), (λ e. cc e), refl)
 
 finish_by : (id : Option ℕ) (body : List ℕ) (digest : Result (List ℕ) Reply) (range : Option (Option Span)) → IsDeclined digest → IsRange range
-    → IsFine body (finish_of id body digest (range_or range))
+    → IsFine Put body (finish_of id body digest (range_or range))
 finish_by id body (Err reply) range k h = k
 finish_by id body (Ok digest) None k h = (refl, tt)
-finish_by id body (Ok digest) (Some range) k h = ((λ le. (h, le)), λ e. cc e)
+finish_by id body (Ok digest) (Some range) k h = ((λ le. (h, le)), (λ e. cc e), refl)
 
-upload_fine : (verb : Verb) (id : Option ℕ) (range : Option (Option Span)) (digest : Option (List ℕ)) (body : List ℕ) → IsRange range
-    → IsFine body (asks_upload verb id range digest body)
-upload_fine Get id range digest body h = ((λ le. tt), λ e. cc e)
+upload_fine : (method : Method) (id : Option ℕ) (range : Option (Option Span)) (digest : Option (List ℕ)) (body : List ℕ) → IsRange range
+    → IsFine method body (upload_call method id range digest body)
+upload_fine Get id range digest body h = ((λ le. tt), (λ e. cc e), refl)
 upload_fine Patch id range digest body h = patch_by id body range h
 upload_fine Put id range digest body h = finish_by id body (needed_digest digest) range (text_fine digest) h
-upload_fine HeadVerb id range digest body h = inr (inl (refl, tt))
+upload_fine HeadMethod id range digest body h = inr (inl (refl, tt))
 upload_fine Post id range digest body h = inr (inl (refl, tt))
 upload_fine Delete id range digest body h = inr (inl (refl, tt))
 upload_fine Other id range digest body h = inr (inl (refl, tt))
@@ -205,61 +207,62 @@ refers_fine : (text : List ℕ) (other : Reply) (reference : Result Reference Re
 refers_fine text other (Ok reference) h k = tt
 refers_fine text other (Err reply) h k = subst Declines (sym k.1) (bad_if (list_any _ text) other h)
 
-on_fine : (body : List ℕ) (call : Reference → Call) (reference : Result Reference Reply) → ((r : Reference) → IsFine body (Ok (call r))) → IsDeclined reference → IsFine body (on_reference call reference)
-on_fine body call (Ok reference) h k = h reference
-on_fine body call (Err reply) h k = k
+on_fine : (method : Method) (body : List ℕ) (call : Reference → Call) (reference : Result Reference Reply) → ((r : Reference) → IsFine method body (Ok (call r))) → IsDeclined reference → IsFine method body (on_reference call reference)
+on_fine method body call (Ok reference) h k = h reference
+on_fine method body call (Err reply) h k = k
 
-puts_fine : (fields : List Field) (body : List ℕ) (reference : Result Reference Reply) (asked : Asked) → IsDeclined reference → Puts fields body reference asked → IsFine body asked
-puts_fine fields body (Err reply) asked h e = subst (IsFine body) (sym e) h
-puts_fine fields body (Ok reference) asked h (inl k) = subst (IsFine body) (sym k.1) (refl, tt)
-puts_fine fields body (Ok reference) asked h (inr (le, media, are, e)) = subst (IsFine body) (sym e) ((λ short. le), λ f. cc f)
+puts_fine : (fields : List Field) (body : List ℕ) (reference : Result Reference Reply) (given : CallOrRefusal) → IsDeclined reference → IsPutCall fields body reference given → IsFine Put body given
+puts_fine fields body (Err reply) given h e = subst (IsFine Put body) (sym e) h
+puts_fine fields body (Ok reference) given h (inl k) = subst (IsFine Put body) (sym k.1) (refl, tt)
+puts_fine fields body (Ok reference) given h (inr (le, media, are, e)) = subst (IsFine Put body) (sym e) ((λ short. le), (λ f. cc f), refl)
 
-manifest_fine : (verb : Verb) (text : List ℕ) (fields : List Field) (body : List ℕ) (asked : Asked) → AsksManifest verb text fields body asked → IsFine body asked
-manifest_fine Get text fields body asked (r, h, e) = subst (IsFine body) (sym e) (on_fine body calls.GetManifest r (λ x. ((λ le. tt), λ f. cc f)) (refers_fine text (refusal ManifestUnknown) r (refl, tt) h))
-manifest_fine HeadVerb text fields body asked (r, h, e) = subst (IsFine body) (sym e) (on_fine body calls.HeadManifest r (λ x. ((λ le. tt), λ f. cc f)) (refers_fine text (refusal ManifestUnknown) r (refl, tt) h))
-manifest_fine Delete text fields body asked (r, h, e) = subst (IsFine body) (sym e) (on_fine body calls.DeleteManifest r (λ x. ((λ le. tt), λ f. cc f)) (refers_fine text (refusal ManifestUnknown) r (refl, tt) h))
-manifest_fine Put text fields body asked (r, h, k) = puts_fine fields body r asked (refers_fine text (refusal ManifestInvalid) r (refl, tt) h) k
-manifest_fine Post text fields body asked e = subst (IsFine body) (sym e) (inr (inl (refl, tt)))
-manifest_fine Patch text fields body asked e = subst (IsFine body) (sym e) (inr (inl (refl, tt)))
-manifest_fine Other text fields body asked e = subst (IsFine body) (sym e) (inr (inl (refl, tt)))
+manifest_fine : (method : Method) (text : List ℕ) (fields : List Field) (body : List ℕ) (given : CallOrRefusal) → IsManifestCall method text fields body given → IsFine method body given
+manifest_fine Get text fields body given (r, h, e) = subst (IsFine Get body) (sym e) (on_fine Get body calls.GetManifest r (λ x. ((λ le. tt), (λ f. cc f), refl)) (refers_fine text (refusal ManifestUnknown) r (refl, tt) h))
+manifest_fine HeadMethod text fields body given (r, h, e) = subst (IsFine HeadMethod body) (sym e) (on_fine HeadMethod body calls.HeadManifest r (λ x. ((λ le. tt), (λ f. cc f), refl)) (refers_fine text (refusal ManifestUnknown) r (refl, tt) h))
+manifest_fine Delete text fields body given (r, h, e) = subst (IsFine Delete body) (sym e) (on_fine Delete body calls.DeleteManifest r (λ x. ((λ le. tt), (λ f. cc f), refl)) (refers_fine text (refusal ManifestUnknown) r (refl, tt) h))
+manifest_fine Put text fields body given (r, h, k) = puts_fine fields body r given (refers_fine text (refusal ManifestInvalid) r (refl, tt) h) k
+manifest_fine Post text fields body given e = subst (IsFine Post body) (sym e) (inr (inl (refl, tt)))
+manifest_fine Patch text fields body given e = subst (IsFine Patch body) (sym e) (inr (inl (refl, tt)))
+manifest_fine Other text fields body given e = subst (IsFine Other body) (sym e) (inr (inl (refl, tt)))
 
 -- ---- messages
 
--- the request is valid, where the body keeps its limit, and a refusal is one that a message may have
-abbrev IsSound : List ℕ → Routed → Type 0
-IsSound body routed = (length body ≤ body_limit → IfRequest routed IsValid) × IfRefused routed Declines
+-- the request is valid, where the body keeps its limit, a refusal is one that a message may have, and the request's call is one of HEAD where the message's method is
+abbrev IsSound : Head → List ℕ → Routed → Type 0
+IsSound head body routed = (length body ≤ body_limit → IfRequest routed IsValid) × IfRefused routed Declines × IfRequest routed (HidesAlike head)
 
-named_sound : (body : List ℕ) (name : Option (List ℕ)) (text : List ℕ) (hop : Bool) (asked : Asked) → name ≡ Some text → IsFine body asked → IsSound body (routed_as name hop asked)
-named_sound body name text hop (Ok call) e h = ((λ le. record { named = ((λ f. cc (e, f)), λ f. absurd (h.1 f)); call = h.0 le }), tt)
-named_sound body name text hop (Err reply) e h = ((λ le. tt), h)
+named_sound : (head : Head) (body : List ℕ) (name : Option (List ℕ)) (text : List ℕ) (hop : Bool) (given : CallOrRefusal) → name ≡ Some text → IsFine (method_of head.method) body given
+    → IsSound head body (routed_as name hop given)
+named_sound head body name text hop (Ok call) e h = ((λ le. record { named = ((λ f. cc (e, f)), λ f. absurd (h.1 f)); call = h.0 le }), tt, λ some. h.2)
+named_sound head body name text hop (Err reply) e h = ((λ le. tt), h, tt)
 
-base_sound : (body : List ℕ) (verb : Verb) (name : Option (List ℕ)) (hop : Bool) → name ≡ None → IsSound body (routed_as name hop (asks_base verb))
-base_sound body Get name hop e = ((λ le. record { named = ((λ f. refl), λ f. e); call = tt }), tt)
-base_sound body HeadVerb name hop e = ((λ le. record { named = ((λ f. refl), λ f. e); call = tt }), tt)
-base_sound body Put name hop e = ((λ le. tt), inr (inl (refl, tt)))
-base_sound body Post name hop e = ((λ le. tt), inr (inl (refl, tt)))
-base_sound body Patch name hop e = ((λ le. tt), inr (inl (refl, tt)))
-base_sound body Delete name hop e = ((λ le. tt), inr (inl (refl, tt)))
-base_sound body Other name hop e = ((λ le. tt), inr (inl (refl, tt)))
+base_sound : (head : Head) (body : List ℕ) (method : Method) (name : Option (List ℕ)) (hop : Bool) → name ≡ None → IsSound head body (routed_as name hop (base_call method))
+base_sound head body Get name hop e = ((λ le. record { named = ((λ f. refl), λ f. e); call = tt }), tt, λ some. absurd (some e))
+base_sound head body HeadMethod name hop e = ((λ le. record { named = ((λ f. refl), λ f. e); call = tt }), tt, λ some. absurd (some e))
+base_sound head body Put name hop e = ((λ le. tt), inr (inl (refl, tt)), tt)
+base_sound head body Post name hop e = ((λ le. tt), inr (inl (refl, tt)), tt)
+base_sound head body Patch name hop e = ((λ le. tt), inr (inl (refl, tt)), tt)
+base_sound head body Delete name hop e = ((λ le. tt), inr (inl (refl, tt)), tt)
+base_sound head body Other name hop e = ((λ le. tt), inr (inl (refl, tt)), tt)
 
-asks_sound : (form : Form) (parts : List (List ℕ)) (text : List ℕ) (head : Head) (body : List ℕ) (name : Option (List ℕ)) (hop : Bool) (asked : Asked)
-    → Names form parts name → Asks form text head body asked → IsSound body (routed_as name hop asked)
-asks_sound forms.Base parts text head body name hop asked n h = subst (λ a. IsSound body (routed_as name hop a)) (sym h) (base_sound body (verb_of head.method) name hop n)
-asks_sound forms.Tags parts text head body name hop asked n h = named_sound body name _ hop asked n.0 (subst (IsFine body) (sym h) (tags_fine body (verb_of head.method) _ _))
-asks_sound forms.Referrers parts text head body name hop asked n h = named_sound body name _ hop asked n.0 (subst (IsFine body) (sym h) (referrers_fine body (verb_of head.method) text _))
-asks_sound forms.Manifest parts text head body name hop asked n h = named_sound body name _ hop asked n.0 (manifest_fine (verb_of head.method) text head.fields body asked h)
-asks_sound forms.Uploads parts text head body name hop asked n (from, is, e) = named_sound body name _ hop asked n.0 (subst (IsFine body) (sym e) (post_fine (verb_of head.method) _ from _ body))
-asks_sound forms.Upload parts text head body name hop asked n (id, is, e) =
-    named_sound body name _ hop asked n.0 (subst (IsFine body) (sym e) (upload_fine (verb_of head.method) id (range_of head.fields) _ body (fields_fine head.fields)))
-asks_sound forms.Blob parts text head body name hop asked n h = named_sound body name _ hop asked n.0 (subst (IsFine body) (sym h) (blob_fine body (verb_of head.method) text))
+is_call_sound : (form : Form) (segments : List (List ℕ)) (text : List ℕ) (head : Head) (body : List ℕ) (name : Option (List ℕ)) (hop : Bool) (given : CallOrRefusal)
+    → Names form segments name → IsCall form text head body given → IsSound head body (routed_as name hop given)
+is_call_sound forms.Base segments text head body name hop given n h = subst (λ a. IsSound head body (routed_as name hop a)) (sym h) (base_sound head body (method_of head.method) name hop n)
+is_call_sound forms.Tags segments text head body name hop given n h = named_sound head body name _ hop given n.0 (subst (IsFine (method_of head.method) body) (sym h) (tags_fine body (method_of head.method) _ _))
+is_call_sound forms.Referrers segments text head body name hop given n h = named_sound head body name _ hop given n.0 (subst (IsFine (method_of head.method) body) (sym h) (referrers_fine body (method_of head.method) text _))
+is_call_sound forms.Manifest segments text head body name hop given n h = named_sound head body name _ hop given n.0 (manifest_fine (method_of head.method) text head.fields body given h)
+is_call_sound forms.Uploads segments text head body name hop given n (from, is, e) = named_sound head body name _ hop given n.0 (subst (IsFine (method_of head.method) body) (sym e) (post_fine (method_of head.method) _ from _ body))
+is_call_sound forms.Upload segments text head body name hop given n (id, is, e) =
+    named_sound head body name _ hop given n.0 (subst (IsFine (method_of head.method) body) (sym e) (upload_fine (method_of head.method) id (range_of head.fields) _ body (fields_fine head.fields)))
+is_call_sound forms.Blob segments text head body name hop given n h = named_sound head body name _ hop given n.0 (subst (IsFine (method_of head.method) body) (sym h) (blob_fine body (method_of head.method) text))
 
-path_sound : (form : Form) (parts : List (List ℕ)) (text : List ℕ) (head : Head) (body : List ℕ) (routed : Routed) → RoutesPath form parts text head body routed → IsSound body routed
-path_sound form parts text head body routed (inl (none, e)) = subst (IsSound body) (sym e) ((λ le. tt), (refl, tt))
-path_sound form parts text head body routed (inr (name, named, asked, asks, e)) = subst (IsSound body) (sym e) (asks_sound form parts text head body name _ asked named asks)
+path_sound : (form : Form) (segments : List (List ℕ)) (text : List ℕ) (head : Head) (body : List ℕ) (routed : Routed) → RoutesPath form segments text head body routed → IsSound head body routed
+path_sound form segments text head body routed (inl (none, e)) = subst (IsSound head body) (sym e) ((λ le. tt), (refl, tt), tt)
+path_sound form segments text head body routed (inr (name, named, given, call_is, e)) = subst (IsSound head body) (sym e) (is_call_sound form segments text head body name _ given named call_is)
 
-pub routes_sound : (head : Head) (body : List ℕ) (routed : Routed) → Routes head body routed → IsSound body routed
-routes_sound head body routed (inl (none, e)) = subst (IsSound body) (sym e) ((λ le. tt), inl (refl, tt))
-routes_sound head body routed (inr (all, form, parts, text, is, h)) = path_sound form parts text head body routed h
+pub routes_sound : (head : Head) (body : List ℕ) (routed : Routed) → Routes head body routed → IsSound head body routed
+routes_sound head body routed (inl (none, e)) = subst (IsSound head body) (sym e) ((λ le. tt), inl (refl, tt), tt)
+routes_sound head body routed (inr (all, form, segments, text, is, h)) = path_sound form segments text head body routed h
 
 -- so is what is answered
 pub answer_valid : (head : Head) (body : List ℕ) (result : Result Routed AllocError) → IfOk result (Routes head body) → length body ≤ body_limit
@@ -268,3 +271,6 @@ answer_valid head body result h le = if_ok result (Routes head body) (λ routed.
 
 pub answer_declines : (head : Head) (body : List ℕ) (result : Result Routed AllocError) → IfOk result (Routes head body) → IfOk result (λ routed. IfRefused routed Declines)
 answer_declines head body result h = if_ok result (Routes head body) (λ routed. IfRefused routed Declines) (λ routed is. (routes_sound head body routed is).1) h
+
+pub answer_hides : (head : Head) (body : List ℕ) (result : Result Routed AllocError) → IfOk result (Routes head body) → IfOk result (λ routed. IfRequest routed (HidesAlike head))
+answer_hides head body result h = if_ok result (Routes head body) (λ routed. IfRequest routed (HidesAlike head)) (λ routed is. (routes_sound head body routed is).2) h

@@ -1,8 +1,9 @@
+pub mod Methods
 pub mod Path
 pub mod Ending
 pub mod Query
 pub mod Lines
-pub mod Asked
-pub mod Told
+pub mod Calls
+pub mod Stops
 pub mod Routed
 pub mod Routes

@@ -1,7 +1,7 @@
 //! The forms of a path.
 
 /// The forms of a path after `/v2/` (OCI Distribution Specification, "Endpoints").
-#[derive(Clone, Copy, Debug, PartialEq, Eq)]
+#[derive(Clone, Copy)]
 pub enum Form {
     /// Nothing.
     Base,

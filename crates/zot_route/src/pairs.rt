@@ -3,12 +3,16 @@ ghost use Rattle.std.specs.Prelude.{◌≡◌, IfOk};
 ghost use Rattle.std.specs.Str.{bytes_eq};
 ghost use Rattle.zot_route.specs.Query.{text_of, value_of};
 
-use crate::part::Part;
+use crate::decoded_text::DecodedText;
 use form_urlencoded::{decode, raw_pairs};
 use std::alloc::{AllocError, Global};
 
 /// The first value of a key in a query, decoded (URL Standard, section 5). It fails only where memory does.
-pub fn value<'a>(alloc: Global, query: &'a [u8], key: &str) -> Result<Option<Part<'a>>, AllocError>
+pub fn value<'a>(
+    alloc: Global,
+    query: &'a [u8],
+    key: &str,
+) -> Result<Option<DecodedText<'a>>, AllocError>
     ensures { IfOk result (λ value. value ≡ value_of key.now query.now) }
 {
     for (name, value) in raw_pairs(query) {
@@ -28,9 +32,9 @@ fn is_key(alloc: Global, name: &[u8], key: &str) -> Result<bool, AllocError>
 }
 
 // The text that the encoded bytes stand for.
-fn read_value<'a>(alloc: Global, value: &'a [u8]) -> Result<Part<'a>, AllocError>
+fn read_value<'a>(alloc: Global, value: &'a [u8]) -> Result<DecodedText<'a>, AllocError>
     ensures { IfOk result (λ text. text ≡ text_of value.now) }
 {
     let text = decode(alloc, value)?;
-    Ok(Part::new(text))
+    Ok(DecodedText::new(text))
 }

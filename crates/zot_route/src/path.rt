@@ -4,15 +4,15 @@ ghost use Rattle.zot_route.specs.Path.{IsPath};
 ghost use Rattle.zot_route.specs.Ending.{Read, ends_in_three as ends_in_three_of, ends_in_two as ends_in_two_of, or_three, read_back};
 ghost use Rattle.zot_route.specs.declared.form.Form.{Form as AForm};
 
+use crate::decoded_text::DecodedText;
 use crate::form::Form;
-use crate::part::Part;
 use std::marker::Model;
 
-/// The form of a path, the parts of the name in it, and the text of its last part. Contracts see the three.
+/// The form of a path, the segments of the name in it, and the text of its last segment. Contracts see the three.
 #[derive(Drop)]
 pub struct Path<'a> {
     form: Form,
-    name: &'a [Part<'a>],
+    name: &'a [DecodedText<'a>],
     text: &'a str,
 }
 
@@ -26,7 +26,7 @@ impl<'a> Model for Path<'a> {
 
 impl<'a> Path<'a> {
     // A path of that form.
-    fn new(form: Form, name: &'a [Part<'a>], text: &'a str) -> Self
+    fn new(form: Form, name: &'a [DecodedText<'a>], text: &'a str) -> Self
         ensures { result ≡ (form, name.now, text.now) }
     {
         Path { form, name, text }
@@ -39,56 +39,56 @@ impl<'a> Path<'a> {
         self.form
     }
 
-    /// The parts of the name.
-    pub fn name(&self) -> &'a [Part<'a>]
+    /// The segments of the name.
+    pub fn name(&self) -> &'a [DecodedText<'a>]
         ensures { result.now ≡ self.now.1 }
     {
         self.name
     }
 
-    /// The text of the last part: a digest, a reference or an upload's id, as it stands; empty in the other forms.
+    /// The text of the last segment: a digest, a reference or an upload's id, as it stands; empty in the other forms.
     pub fn text(&self) -> &'a str
         ensures { result.now ≡ self.now.2 }
     {
         self.text
     }
 
-    /// The path of these parts, or none where they have no form. Takes no memory.
-    pub fn read(parts: &'a [Part<'a>]) -> Option<Path<'a>>
-        ensures { MatchOption result ((form : AForm) (name : List (List ℕ)) (text : List ℕ) → ¬ IsPath parts.now form name text)
-            (λ path. IsPath parts.now path.0 path.1 path.2) }
+    /// The path of these segments, or none where they have no form. Takes no memory.
+    pub fn read(segments: &'a [DecodedText<'a>]) -> Option<Path<'a>>
+        ensures { MatchOption result ((form : AForm) (name : List (List ℕ)) (text : List ℕ) → ¬ IsPath segments.now form name text)
+            (λ path. IsPath segments.now path.0 path.1 path.2) }
     {
-        let Some(behind) = behind_version(parts) else {
+        let Some(after) = after_version(segments) else {
             return None;
         };
-        read_behind(behind)
+        read_after_version(after)
     }
 }
 
-// The parts after `/v2/`.
-fn behind_version<'a>(parts: &'a [Part<'a>]) -> Option<&'a [Part<'a>]>
-    ensures { MatchOption result ((behind : List (List ℕ)) → parts.now ≢ [] ∷ codes "v2" ∷ behind)
-        (λ behind. parts.now ≡ [] ∷ codes "v2" ∷ behind.now) }
+// The segments after `/v2/`.
+fn after_version<'a>(segments: &'a [DecodedText<'a>]) -> Option<&'a [DecodedText<'a>]>
+    ensures { MatchOption result ((after : List (List ℕ)) → segments.now ≢ [] ∷ codes "v2" ∷ after)
+        (λ after. segments.now ≡ [] ∷ codes "v2" ∷ after.now) }
 {
-    let Some((root, more)) = parts.split_first() else {
+    let Some((root, more)) = segments.split_first() else {
         return None;
     };
-    let Some((version, behind)) = more.split_first() else {
+    let Some((version, after)) = more.split_first() else {
         return None;
     };
     if root.as_str() == "" && version.as_str() == "v2" {
-        Some(behind)
+        Some(after)
     } else {
         None
     }
 }
 
-// The path of these parts after `/v2/`.
-fn read_behind<'a>(parts: &'a [Part<'a>]) -> Option<Path<'a>>
-    ensures { result ≡ read_back (reverse parts.now) }
+// The path of these segments after `/v2/`.
+fn read_after_version<'a>(segments: &'a [DecodedText<'a>]) -> Option<Path<'a>>
+    ensures { result ≡ read_back (reverse segments.now) }
 {
-    let Some((last, before)) = parts.split_last() else {
-        return Some(Path::new(Form::Base, parts, ""));
+    let Some((last, before)) = segments.split_last() else {
+        return Some(Path::new(Form::Base, segments, ""));
     };
     match before.split_last() {
         Some((kind, name)) => read_last(name, kind.as_str(), last.as_str()),
@@ -97,8 +97,8 @@ fn read_behind<'a>(parts: &'a [Part<'a>]) -> Option<Path<'a>>
     }
 }
 
-// The path whose last two parts these are.
-fn read_last<'a>(more: &'a [Part<'a>], kind: &str, text: &'a str) -> Option<Path<'a>>
+// The path whose last two segments these are.
+fn read_last<'a>(more: &'a [DecodedText<'a>], kind: &str, text: &'a str) -> Option<Path<'a>>
     ensures { result ≡ or_three (ends_in_two_of more.now kind.now text.now) (reverse more.now) kind.now text.now }
 {
     match ends_in_two(more, kind, text) {
@@ -110,9 +110,9 @@ fn read_last<'a>(more: &'a [Part<'a>], kind: &str, text: &'a str) -> Option<Path
     }
 }
 
-// The forms whose last two parts these are, after the parts of a name.
+// The forms whose last two segments these are, after the segments of a name.
 #[tactic(auto, unfolding(crate::specs::Ending::ends_in_two))]
-fn ends_in_two<'a>(name: &'a [Part<'a>], kind: &str, text: &'a str) -> Option<Path<'a>>
+fn ends_in_two<'a>(name: &'a [DecodedText<'a>], kind: &str, text: &'a str) -> Option<Path<'a>>
     ensures { result ≡ ends_in_two_of name.now kind.now text.now }
 {
     if kind == "manifests" {
@@ -132,10 +132,10 @@ fn ends_in_two<'a>(name: &'a [Part<'a>], kind: &str, text: &'a str) -> Option<Pa
     }
 }
 
-// The forms of an upload, whose last three parts these are.
+// The forms of an upload, whose last three segments these are.
 #[tactic(auto, unfolding(crate::specs::Ending::ends_in_three))]
 fn ends_in_three<'a>(
-    name: &'a [Part<'a>],
+    name: &'a [DecodedText<'a>],
     kind: &str,
     middle: &str,
     text: &'a str,

@@ -1,8 +1,8 @@
 //! How a path refers to a manifest.
 ghost use Rattle.std.specs.Prelude.{◌≡◌, ◌==◌};
 ghost use Rattle.std.specs.List.{list_any};
-ghost use Rattle.zot_route.specs.Asked.{Refers, bad_reference as bad_reference_of};
-ghost use Rattle.zot_route.specs.Told.{IfTold};
+ghost use Rattle.zot_route.specs.Calls.{Refers, bad_reference as bad_reference_of};
+ghost use Rattle.zot_route.specs.Stops.{UnlessNoMemory};
 
 use crate::stop::Stop;
 use std::alloc::Global;
@@ -13,7 +13,7 @@ use zot_names::{NameError, Tag};
 
 /// How a text refers to a manifest; where it doesn't, it is refused as no digest if it has a `:`, and else as the caller says.
 pub fn reference(alloc: Global, text: &str, other: Reply) -> Result<Reference, Stop>
-    ensures { IfTold result (Refers text.now other) }
+    ensures { UnlessNoMemory result (Refers text.now other) }
 {
     if let Ok(digest) = parse_digest(text) {
         return Ok(Reference::Digest(digest));

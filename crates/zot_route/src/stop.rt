@@ -5,7 +5,7 @@ use zot_model::Reply;
 /// Why no call was read.
 #[derive(Drop)]
 pub enum Stop {
-    /// The message asks for none.
+    /// The message makes none, and is refused so.
     Refused(Reply),
     /// Memory ran out.
     NoMemory,
@@ -19,16 +19,5 @@ impl From<AllocError> for Stop {
 
     fn from(_: AllocError) -> Stop {
         Stop::NoMemory
-    }
-}
-
-impl From<Reply> for Stop {
-    ghost use Rattle.std.specs.Prelude.{◌≡◌};
-    ghost use Rattle.zot_route.specs.declared.stop.Stop.TheVariants.{Refused};
-
-    ghost from_gives = { λ reply stop. stop ≡ Refused reply };
-
-    fn from(reply: Reply) -> Stop {
-        Stop::Refused(reply)
     }
 }

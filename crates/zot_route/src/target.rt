@@ -1,10 +1,10 @@
 //! The target of a request.
 ghost use Rattle.std.specs.Prelude.{◌≡◌, ◌==◌, IfOk, IsUtf8, MatchOption};
 ghost use Rattle.std.specs.List.{AllByRecursion};
-ghost use Rattle.zot_route.specs.Path.{decoded, parts_of, query_of};
+ghost use Rattle.zot_route.specs.Path.{decoded, segments_of, query_of};
 
 use crate::cuts::cut;
-use crate::part::Part;
+use crate::decoded_text::DecodedText;
 use std::alloc::{AllocError, Global};
 use std::marker::Model;
 
@@ -18,18 +18,18 @@ pub struct Target<'a> {
 
 impl<'a> Model for Target<'a> {
     ghost use Rattle.std.specs.Prelude.{◌≡◌, ℕ, List};
-    ghost use Rattle.zot_route.specs.Path.{decoded, parts_of, query_of};
+    ghost use Rattle.zot_route.specs.Path.{decoded, segments_of, query_of};
 
     ghost Value = { List ℕ };
 
     ghost view = { λ t. t.text.now };
 
-    ghost invariant = { λ t. (decoded t.path.now ≡ parts_of t.text.now) × (t.query.now ≡ query_of t.text.now) };
+    ghost invariant = { λ t. (decoded t.path.now ≡ segments_of t.text.now) × (t.query.now ≡ query_of t.text.now) };
 }
 
 impl<'a> Target<'a> {
     /// The target of this text. Takes no memory.
-    #[tactic(auto, unfolding(crate::specs::Path::parts_of, crate::specs::Path::query_of))]
+    #[tactic(auto, unfolding(crate::specs::Path::segments_of, crate::specs::Path::query_of))]
     pub fn read(text: &'a str) -> Self
         ensures { result ≡ text.now }
     {
@@ -44,26 +44,29 @@ impl<'a> Target<'a> {
         self.query
     }
 
-    /// The parts of the path between its slashes (RFC 3986, section 3.3), decoded; none where one of them isn't UTF-8. It fails only where memory does.
-    pub fn parts(&self, alloc: Global) -> Result<Option<Vec<Part<'a>>>, AllocError>
-        ensures { IfOk result (λ parts. MatchOption parts (¬ AllByRecursion IsUtf8 (parts_of self.now))
-            (λ list. (list.items ≡ parts_of self.now) × AllByRecursion IsUtf8 (parts_of self.now))) }
+    /// The segments of the path between its slashes (RFC 3986, section 3.3), decoded; none where one of them isn't UTF-8. It fails only where memory does.
+    pub fn segments(&self, alloc: Global) -> Result<Option<Vec<DecodedText<'a>>>, AllocError>
+        ensures { IfOk result (λ segments. MatchOption segments (¬ AllByRecursion IsUtf8 (segments_of self.now))
+            (λ list. (list.items ≡ segments_of self.now) × AllByRecursion IsUtf8 (segments_of self.now))) }
     {
-        read_parts(alloc, self.path)
+        read_segments(alloc, self.path)
     }
 }
 
-// The parts of a path, decoded.
-fn read_parts<'a>(alloc: Global, path: &'a [u8]) -> Result<Option<Vec<Part<'a>>>, AllocError>
-    ensures { IfOk result (λ parts. MatchOption parts (¬ AllByRecursion IsUtf8 (decoded path.now))
+// The segments of a path, decoded.
+fn read_segments<'a>(
+    alloc: Global,
+    path: &'a [u8],
+) -> Result<Option<Vec<DecodedText<'a>>>, AllocError>
+    ensures { IfOk result (λ segments. MatchOption segments (¬ AllByRecursion IsUtf8 (decoded path.now))
         (λ list. (list.items ≡ decoded path.now) × AllByRecursion IsUtf8 (decoded path.now))) }
 {
-    let mut parts = Vec::new(alloc);
+    let mut segments = Vec::new(alloc);
     for bytes in path.split(|byte| *byte == b'/') {
-        match Part::read(alloc, bytes)? {
-            Some(part) => parts.push(part)?,
+        match DecodedText::read(alloc, bytes)? {
+            Some(segment) => segments.push(segment)?,
             None => return Ok(None),
         }
     }
-    Ok(Some(parts))
+    Ok(Some(segments))
 }

@@ -1,5 +1,5 @@
 -- Counts of faults of calls that are made of other calls.
-use Rattle.std.proofs.Common.{◌≡◌, ℕ, Bool, true, false, sym, ◌∙◌, subst}
+use Rattle.std.proofs.Common.{◌≡◌, ℕ, Bool, true, false, Some, refl, sym, ap, ◌∙◌, subst}
 use Rattle.zot_session.specs.declared.cut.Cut.{Cut}
 use Rattle.zot_session.specs.declared.cut.Cut.TheVariants as cuts
 use Rattle.zot_session.specs.declared.end.End.{End}
@@ -53,14 +53,18 @@ unsent_failed : (error : SendError) → end_unsent error ≡ ends.WriteFault →
 unsent_failed errors.Fault e = λ i. errors.Fault
 unsent_failed errors.NoMemory e = absurd (cc e)
 
-unsent_no_read : (error : SendError) → end_unsent error ≡ ends.ReadFault → ⊥
+pub unsent_no_read : (error : SendError) → end_unsent error ≡ ends.ReadFault → ⊥
 unsent_no_read errors.Fault e = cc e
 unsent_no_read errors.NoMemory e = cc e
 
 -- a connection that ends with a reply that isn't sent whole
-pub causes_unsent : {failed : Type 0} {reads reads' start writes writes' : ℕ} (error : SendError) (end : End) → end ≡ end_unsent error → (failed → error ≡ errors.Fault) → (error ≡ errors.Fault → failed) → writes ≡ start
-    → Counts failed writes writes' → reads' ≡ reads → Causes (end ≡ ends.ReadFault) (end ≡ ends.WriteFault) reads reads' start writes'
-causes_unsent error end is on back before c same = record {
-  read = counts_kept (λ e. unsent_no_read error (sym is ∙ e)) same;
-  write = counts_map before (λ e. back (unsent_failed error (sym is ∙ e))) (λ f. is ∙ (λ i. end_unsent (on f i))) c;
-}
+pub counts_unsent : {failed : Type 0} {before after : ℕ} (error : SendError) (end : End) → end ≡ end_unsent error → (failed → error ≡ errors.Fault) → (error ≡ errors.Fault → failed) → Counts failed before after
+    → Counts (Some end ≡ Some ends.WriteFault) before after
+counts_unsent error end is on back c = counts_map refl (λ e. back (unsent_failed error (sym is ∙ within e))) (λ f. ap Some (is ∙ (λ i. end_unsent (on f i)))) c
+  where
+    within : Some end ≡ Some ends.WriteFault → end ≡ ends.WriteFault
+    within e = cc e
+
+-- nothing was read in a call, and a write failed where it says so
+pub causes_written : {read write : Type 0} {reads reads' start writes writes' : ℕ} → ¬ read → reads' ≡ reads → writes ≡ start → Counts write writes writes' → Causes read write reads reads' start writes'
+causes_written none same before c = record { read = counts_kept none same; write = counts_map before (λ f. f) (λ f. f) c }

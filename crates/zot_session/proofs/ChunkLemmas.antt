@@ -7,11 +7,11 @@ use Rattle.zot_head.specs.declared.chunk_error.ChunkError.{ChunkError}
 use Rattle.zot_head.specs.declared.chunk_error.ChunkError.TheVariants as errors
 use Rattle.zot_head.specs.declared.fed.Fed.{Fed}
 use Rattle.zot_head.specs.declared.framing.Framing.TheVariants as framings
-use Rattle.zot_head.specs.Chunked.{Body as ChunkBody, Broken, Unfinished, Whole, behind, chunked}
+use Rattle.zot_head.specs.Chunked.{Body as ChunkBody, Broken, Unfinished, Whole, body_after, chunked}
 use Rattle.zot_head.specs.Front.{Refusal, refusal_of, with_chunks}
 use Rattle.zot_head.specs.Front as fronts
 use Rattle.zot_head.specs.Progress.{Advances, AnswersErr, AnswersOk, Progress, Stops, reading}
-use Rattle.zot_head.proofs.ProgressLemmas.{behind-append, behind-nil}
+use Rattle.zot_head.proofs.ProgressLemmas.{body_after-append, body_after-nil}
 use Rattle.zot_model.specs.declared.reply.Reply.{Reply}
 use Rattle.zot_model.specs.Valid.{body_limit}
 use Rattle.zot_session.specs.Messages.{refused_as}
@@ -22,42 +22,42 @@ use Rattle.zot_session.proofs.RoomLemmas.{room_pass}
 
 -- what was passed over of a body in chunks gave out these bytes, and the reader goes on after it
 abbrev pub ReadSoFar : List ℕ → List ℕ → Progress → Type 0
-ReadSoFar passed given reader = (more : List ℕ) → chunked body_limit (passed ++ more) ≡ behind given (reading reader more)
+ReadSoFar passed given reader = (more : List ℕ) → chunked body_limit (passed ++ more) ≡ body_after given (reading reader more)
 
 -- nothing was passed over yet
 pub read_none : (reader : Progress) → ((bytes : List ℕ) → reading reader bytes ≡ chunked 67_108_864 bytes) → ReadSoFar [] [] reader
 unfolding body_limit
-read_none reader h = λ more. sym (h more) ∙ sym (behind-nil (reading reader more))
+read_none reader h = λ more. sym (h more) ∙ sym (body_after-nil (reading reader more))
 
 -- a piece more, all of which belongs to the body
 pub read_more : (passed piece : List ℕ) (old new : Progress) (taken : ℕ) (before after : List ℕ) → ReadSoFar passed before old → Advances old piece new (drop taken piece) before after → taken ≡ length piece
     → ReadSoFar (passed ++ piece) after new
 read_more passed piece old new taken before after h a all = λ more.
     let none : drop taken piece ≡ [] = drop_all taken piece (omega arith) in
-    let same : reading old (piece ++ more) ≡ behind a.given (reading new more) = a.same more ∙ ap (λ r. behind a.given (reading new (r ++ more))) none in
-    ap (chunked body_limit) (append_assoc passed piece more) ∙ h (piece ++ more) ∙ ap (behind before) same ∙ sym (behind-append before a.given (reading new more)) ∙ ap (λ b. behind b (reading new more)) (sym a.out)
+    let same : reading old (piece ++ more) ≡ body_after a.given (reading new more) = a.same more ∙ ap (λ r. body_after a.given (reading new (r ++ more))) none in
+    ap (chunked body_limit) (append_assoc passed piece more) ∙ h (piece ++ more) ∙ ap (body_after before) same ∙ sym (body_after-append before a.given (reading new more)) ∙ ap (λ b. body_after b (reading new more)) (sym a.out)
 
 -- the body is whole
-whole_by : (read : ChunkBody) (piece : List ℕ) (fed : Fed) (before after : List ℕ) → AnswersOk read piece fed before after → fed.done ≡ true → behind before read ≡ Whole after (drop fed.taken piece)
+whole_by : (read : ChunkBody) (piece : List ℕ) (fed : Fed) (before after : List ℕ) → AnswersOk read piece fed before after → fed.done ≡ true → body_after before read ≡ Whole after (drop fed.taken piece)
 whole_by (Whole given rest) piece fed before after h done = cc (h.2, h.3)
 whole_by (Unfinished given) piece fed before after h done = absurd (cc (h.0, done))
 whole_by (Broken given error) piece fed before after h done = absurd h
 
 -- the body isn't whole yet
-unfinished_by : (read : ChunkBody) (piece : List ℕ) (fed : Fed) (before after : List ℕ) → AnswersOk read piece fed before after → fed.done ≡ false → (behind before read ≡ Unfinished after) × (fed.taken ≡ length piece)
+unfinished_by : (read : ChunkBody) (piece : List ℕ) (fed : Fed) (before after : List ℕ) → AnswersOk read piece fed before after → fed.done ≡ false → (body_after before read ≡ Unfinished after) × (fed.taken ≡ length piece)
 unfinished_by (Whole given rest) piece fed before after h done = absurd (cc (h.0, done))
 unfinished_by (Unfinished given) piece fed before after h done = (cc h.2, h.1)
 unfinished_by (Broken given error) piece fed before after h done = absurd h
 
 -- the body is broken
-broken_by : (read : ChunkBody) (error : ChunkError) (before after : List ℕ) → AnswersErr read error before after → behind before read ≡ Broken after error
+broken_by : (read : ChunkBody) (error : ChunkError) (before after : List ℕ) → AnswersErr read error before after → body_after before read ≡ Broken after error
 broken_by (Whole given rest) error before after h = absurd h
 broken_by (Unfinished given) error before after h = absurd h
 broken_by (Broken given broken) error before after h = cc (h.0, h.1)
 
 -- all that came, read as a body in chunks
 read_all : (was mid : Waiting) (passed came given : List ℕ) (reader : Progress) → was.bytes ++ came ≡ passed ++ mid.bytes → ReadSoFar passed given reader
-    → chunked body_limit (was.bytes ++ came) ≡ behind given (reading reader mid.bytes)
+    → chunked body_limit (was.bytes ++ came) ≡ body_after given (reading reader mid.bytes)
 read_all was mid passed came given reader split h = ap (chunked body_limit) split ∙ h mid.bytes
 
 -- the last piece was taken
@@ -98,7 +98,7 @@ chunks_passed {was} {mid} {passed} {came} is before after reader fed c room h a 
 broken_front : (read : ChunkBody) (error : ChunkError) (was mid : Waiting) (passed came before after : List ℕ) (reader : Progress) → was.bytes ++ came ≡ passed ++ mid.bytes → ReadSoFar passed before reader
     → reading reader mid.bytes ≡ read → AnswersErr read error before after → BodyIs framings.Chunked (was.bytes ++ came) (λ head. fronts.Refused (refusal_of error))
 broken_front read error was mid passed came before after reader split h is a =
-    let all = read_all was mid passed came before reader split h ∙ ap (behind before) is ∙ broken_by read error before after a in
+    let all = read_all was mid passed came before reader split h ∙ ap (body_after before) is ∙ broken_by read error before after a in
     λ head. ap (with_chunks head) all
 
 -- the reply to a message whose body is broken is the refusal of its cause

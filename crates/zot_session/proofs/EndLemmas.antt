@@ -19,7 +19,7 @@ use Rattle.zot_session.specs.Cuts.{HasCut, budget, end_of}
 use Rattle.zot_session.specs.Ending.{Ending, EndsAfter, EndsCut, EndsUnsent, EndsWith, after, closed, cut_short, refused_there, unread, unsent, unsent_last, with_last}
 use Rattle.zot_session.specs.Ends.{EndsAs, EndsAt, HasFailed, end_over}
 use Rattle.zot_session.specs.Exchanges.{Exchange, StayOpen, message_of, spelled}
-use Rattle.zot_session.specs.Messages.{IsPartial, Message, Messages, status_of}
+use Rattle.zot_session.specs.Messages.{IsPartial, Message, Messages, refusal_status}
 use Rattle.zot_session.specs.Sending.{end_unsent}
 use Rattle.zot_session.specs.Session.{Served}
 use Rattle.zot_session.proofs.MessageLemmas.{Messages-last, Messages-more, map-push, refused_more, stands_more}
@@ -142,7 +142,7 @@ ends_once : (full : Bool) (bytes : List ℕ) (first second : List Message) (one 
 ends_once full bytes [] [] one other (inl h) (inl k) =
     let same : fronts.Refused h.0 ≡ fronts.Refused k.0 = same_front bytes (fronts.Refused h.0) (fronts.Refused k.0) h.1 k.1 in
     let why : h.0 ≡ k.0 = cc same in
-    h.2 ∙ ap (λ w. ends.Refused (status_of w)) why ∙ sym k.2
+    h.2 ∙ ap (λ w. ends.Refused (refusal_status w)) why ∙ sym k.2
 ends_once full bytes [] [] one other (inl h) (inr k) = let same : fronts.Refused h.0 ≡ fronts.Partial = same_front bytes (fronts.Refused h.0) fronts.Partial h.1 k.0 in absurd (cc same)
 ends_once full bytes [] [] one other (inr h) (inl k) = let same : fronts.Refused k.0 ≡ fronts.Partial = same_front bytes (fronts.Refused k.0) fronts.Partial k.1 h.0 in absurd (cc same)
 ends_once full bytes [] [] one other (inr h) (inr k) = h.1 ∙ sym k.1

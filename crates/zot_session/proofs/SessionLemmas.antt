@@ -1,4 +1,4 @@
--- A session so far, turn by turn.
+-- A connection so far, turn by turn.
 use Rattle.std.proofs.Common.{◌≡◌, ℕ, ◌+◌, ◌-◌, ◌*◌, ◌<◌, ◌≤◌, List, [], ◌∷◌, ◌++◌, length, map, Option, refl, sym, ap, subst, arith}
 use Rattle.std.proofs.lemmas.List.{length-append}
 use Rattle.std.specs.List.{AllByRecursion}
@@ -19,7 +19,7 @@ use Rattle.zot_session.specs.Waiting.{Waiting}
 use Rattle.zot_session.proofs.MessageLemmas.{Messages-more, Messages-push, all_push, map-push, output-push, stands_size}
 use Rattle.std.proofs.Common.{inl, false}
 
--- a session so far: what was taken is the exchanges' messages and what waits, all their replies were written, and none of them closes the connection
+-- a connection so far: what was taken is the exchanges' messages and what waits, all their replies were written, and none of them closes the connection
 pub record SoFar {A : Type 0} (answers : A → Request → Reply → A → Type 0) (old now : A) (left_before left_now held_before held_now : Option (List ℕ)) (waits : Waiting) : Type 0 where
   pub taken : List ℕ
   pub exchanges : List Exchange
@@ -87,7 +87,7 @@ module _ {A : Type 0} (answers : A → Request → Reply → A → Type 0) where
           within = g.took.within s.within;
         }
 
-    -- the end of a session
+    -- the end of the connection
     pub so_far_ends : {end : End} → Stops answers end now new left left' held held' was is → Served (λ exchanges. Conducts answers old exchanges new) end left_before left' held_before held'
     so_far_ends {end} k = by k.ends
       where
@@ -135,7 +135,7 @@ module _ {A : Type 0} (answers : A → Request → Reply → A → Type 0) where
       let fits = g.took.within within in
       omega arith
 
-  -- a session that began with no memory
+  -- a connection for which memory ran out before it began
   pub never_began : (old : A) (left held : Option (List ℕ)) → Served (λ exchanges. Conducts answers old exchanges old) ends.NoMemory left left held held
   never_began old left held = record {
     taken = [];

@@ -3,14 +3,14 @@ use Rattle.std.proofs.Common.{◌≡◌, ℕ, List, [], ◌∷◌, ◌++◌, ref
 use Rattle.std.specs.List.{AllByRecursion, AllZip, flat_map}
 use Rattle.zot_model.specs.declared.request.Request.{Request}
 use Rattle.zot_model.specs.Valid.{body_limit}
-use Rattle.zot_session.specs.Messages.{Asks, Message, Messages}
+use Rattle.zot_session.specs.Messages.{Message, Messages, RoutesTo}
 use Rattle.zot_spell.specs.Wire.{body_of, request_bytes}
 use Rattle.zot_delivery.specs.Delivery.{IsReadable}
 use Rattle.zot_delivery.proofs.DeliveryLemmas.{delivered}
 use Rattle.zot_delivery.proofs.WrittenLemmas.{body_fits}
 
 pub requests_read : (requests : List Request) (more : List ℕ) → AllByRecursion IsReadable requests
-    → (messages : List Message) × Messages (flat_map request_bytes requests ++ more) messages more × AllZip Asks messages requests
+    → (messages : List Message) × Messages (flat_map request_bytes requests ++ more) messages more × AllZip RoutesTo messages requests
 requests_read [] more all = ([], refl, tt)
 requests_read (request ∷ requests) more all =
     let is = all.0 in

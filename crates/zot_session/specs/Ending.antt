@@ -7,7 +7,7 @@ use Rattle.zot_session.specs.declared.end.End.TheVariants as ends
 use Rattle.zot_session.specs.declared.send_error.SendError.{SendError}
 use Rattle.zot_session.specs.Cuts.{HasCut, end_of}
 use Rattle.zot_session.specs.Exchanges.{Exchange, StayOpen, closes, output, spelled}
-use Rattle.zot_session.specs.Messages.{IsPartial, IsRefused, Owes, refused_as, status_of}
+use Rattle.zot_session.specs.Messages.{IsPartial, IsRefused, Owes, refused_as, refusal_status}
 use Rattle.zot_session.specs.Sending.{IsPart, end_unsent}
 use Rattle.zot_spell.specs.Spelling.{reply_bytes}
 
@@ -35,7 +35,7 @@ pub record EndsRefused (end : End) (rest text : List ℕ) : Type 0 where
   pub is_refused : IsRefused rest why
   pub owed : Owes rest before
   pub text_is : text ≡ before ++ closing_bytes why
-  pub end_is : end ≡ ends.Refused (status_of why)
+  pub end_is : end ≡ ends.Refused (refusal_status why)
 
 -- of the text that had to be written a part was
 pub record EndsUnsent (end : End) (whole text : List ℕ) : Type 0 where

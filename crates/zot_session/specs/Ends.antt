@@ -5,7 +5,7 @@ use Rattle.zot_session.specs.declared.cut.Cut.TheVariants as cuts
 use Rattle.zot_session.specs.declared.end.End.{End}
 use Rattle.zot_session.specs.declared.end.End.TheVariants as ends
 use Rattle.zot_session.specs.Cuts.{budget, end_of}
-use Rattle.zot_session.specs.Messages.{IsPartial, IsRefused, Message, Stands, status_of}
+use Rattle.zot_session.specs.Messages.{IsPartial, IsRefused, Message, Stands, refusal_status}
 
 -- the end where less than a message is left: by whether the connection brings all that it may
 abbrev pub end_over : Bool → List ℕ → End
@@ -14,7 +14,7 @@ end_over false rest = end_of cuts.Over rest
 
 -- a connection ends so at these bytes, of which these are the messages that it still has: after them, or with the last of them, which asks to close it
 abbrev pub EndsAt : Bool → List ℕ → List Message → End → Type 0
-EndsAt full bytes [] end = ((why : Refusal) × IsRefused bytes why × (end ≡ ends.Refused (status_of why))) ⊎ (IsPartial bytes × (end ≡ end_over full bytes))
+EndsAt full bytes [] end = ((why : Refusal) × IsRefused bytes why × (end ≡ ends.Refused (refusal_status why))) ⊎ (IsPartial bytes × (end ≡ end_over full bytes))
 EndsAt full bytes (message ∷ messages) end = (rest : List ℕ) × Stands bytes message rest
     × (((message.head.closes ≡ true) × (messages ≡ []) × (end ≡ ends.Closed)) ⊎ ((message.head.closes ≡ false) × EndsAt full rest messages end))
 

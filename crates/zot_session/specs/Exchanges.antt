@@ -1,12 +1,11 @@
 -- The messages of a connection with their replies, and what is written for them.
-use Rattle.std.specs.Prelude.{◌≡◌, ℕ, Bool, true, false, List, [], ◌∷◌, ◌++◌, Option, Some, None, codes}
+use Rattle.std.specs.Prelude.{◌≡◌, ℕ, Bool, true, false, List, [], ◌∷◌, ◌++◌, Option, Some, None}
 use Rattle.std.specs.List.{AllByRecursion}
-use Rattle.std.specs.Str.{bytes_eq}
-use Rattle.zot_head.specs.declared.head.Head.{Head}
 use Rattle.zot_model.specs.declared.reply.Reply.{Reply}
 use Rattle.zot_model.specs.declared.request.Request.{Request}
 use Rattle.zot_model.specs.Fits.{Fits}
 use Rattle.zot_route.specs.declared.routed.Routed.TheVariants as routes
+use Rattle.zot_route.specs.Methods.{hides_body, method_of}
 use Rattle.zot_route.specs.Routes.{Routes}
 use Rattle.zot_session.specs.Messages.{Message, continue_of}
 use Rattle.zot_spell.specs.Spelling.{reply_bytes}
@@ -30,14 +29,10 @@ abbrev pub IsRouted : Exchange → Type 0
 IsRouted (answered message request reply) = Routes message.head message.body (routes.Request request) × Fits request reply
 IsRouted (declined message reply) = Routes message.head message.body (routes.Refused reply)
 
--- the method is HEAD (RFC 9110, section 9.3.2), whose replies have no body
-unfoldable pub is_head : Head → Bool
-is_head head = bytes_eq head.method (codes "HEAD")
-
--- the bytes of the reply alone
+-- the bytes of the reply alone, which shows no body where the message's method is HEAD
 abbrev pub reply_of : Exchange → List ℕ
-reply_of (answered message request reply) = reply_bytes (Some request) reply (is_head message.head) message.head.closes
-reply_of (declined message reply) = reply_bytes None reply (is_head message.head) message.head.closes
+reply_of (answered message request reply) = reply_bytes (Some request) reply (hides_body (method_of message.head.method)) message.head.closes
+reply_of (declined message reply) = reply_bytes None reply (hides_body (method_of message.head.method)) message.head.closes
 
 -- all that is written for a message: what is owed before its body is read, and the reply
 abbrev pub spelled : Exchange → List ℕ

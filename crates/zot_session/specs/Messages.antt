@@ -11,7 +11,7 @@ use Rattle.zot_model.specs.declared.code.Code.{Code}
 use Rattle.zot_model.specs.declared.code.Code.TheVariants as reasons
 use Rattle.zot_model.specs.declared.reply.Reply.{Reply}
 use Rattle.zot_model.specs.declared.request.Request.{Request}
-use Rattle.zot_model.specs.Codes.{status_of as code_status}
+use Rattle.zot_model.specs.Codes.{status_of}
 use Rattle.zot_model.specs.Refusals.{refusal}
 use Rattle.zot_model.specs.Valid.{body_limit}
 use Rattle.zot_route.specs.declared.routed.Routed.TheVariants as routes
@@ -39,9 +39,9 @@ abbrev pub Messages : List ℕ → List Message → List ℕ → Type 0
 Messages bytes [] rest = bytes ≡ rest
 Messages bytes (message ∷ messages) rest = (next : List ℕ) × Stands bytes message next × Messages next messages rest
 
--- a message asks that request
-abbrev pub Asks : Message → Request → Type 0
-Asks message request = Routes message.head message.body (routes.Request request)
+-- a message is routed to that request
+abbrev pub RoutesTo : Message → Request → Type 0
+RoutesTo message request = Routes message.head message.body (routes.Request request)
 
 -- the code of a message that is refused for its head or for the form of its body
 abbrev pub code_of : Refusal → Code
@@ -50,8 +50,8 @@ code_of fronts.SizeInvalid = reasons.SizeInvalid
 code_of fronts.HeadTooLong = reasons.HeadTooLong
 
 -- its status (RFC 9110, section 15.5; RFC 6585, section 5)
-abbrev pub status_of : Refusal → ℕ
-status_of why = code_status (code_of why)
+abbrev pub refusal_status : Refusal → ℕ
+refusal_status why = status_of (code_of why)
 
 -- the reply to it, after which the connection closes
 abbrev pub refused_as : Refusal → Reply

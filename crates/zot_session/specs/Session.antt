@@ -1,4 +1,4 @@
--- A session: what a connection was from its first byte to its end.
+-- What a connection was from its first byte to its end.
 use Rattle.std.specs.Prelude.{◌≡◌, ℕ, ◌≤◌, List, length, map, Option}
 use Rattle.std.specs.List.{AllByRecursion}
 use Rattle.zot_outside.specs.Streams.{Appends, Takes}

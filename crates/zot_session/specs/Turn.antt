@@ -1,5 +1,5 @@
--- One turn of a session: a message is received and answered, or the connection ends.
-use Rattle.std.specs.Prelude.{◌≡◌, ℕ, ◌-◌, true, false, List, [], ◌∷◌, ◌++◌, length, Option, None, Result, Ok, Err}
+-- One turn of a connection: a message is received and answered, or the connection ends.
+use Rattle.std.specs.Prelude.{◌≡◌, ℕ, ◌-◌, true, false, List, [], ◌∷◌, ◌++◌, length, Option, None, Some, Result, Ok, Err}
 use Rattle.zot_model.specs.declared.reply.Reply.{Reply}
 use Rattle.zot_model.specs.declared.reply.Reply.TheVariants.{Refused}
 use Rattle.zot_model.specs.declared.request.Request.{Request}
@@ -33,19 +33,29 @@ pub data Unreplied {A : Type 0} (answers : A → Request → Reply → A → Typ
   reply_unsent : (replies : Replies answers old new message) → StopsWriting error before (reply_of replies.exchange) after → Unreplied answers error old new message before after
   unasked : error ≡ errors.NoMemory → new ≡ old → after ≡ before → Unreplied answers error old new message before after
 
--- what came of a message that asks or is declined
-abbrev pub Answered : {A T : Type 0} → (A → Request → Reply → A → Type 0) → Result T SendError → A → A → Message → Option (List ℕ) → Option (List ℕ) → Type 0
-Answered answers (Ok x) old new message before after = Replied answers old new message before after
-Answered answers (Err error) old new message before after = Unreplied answers error old new message before after
+-- what came of a whole message: it asks something, or is declined
+abbrev pub Exchanged : {A T : Type 0} → (A → Request → Reply → A → Type 0) → Result T SendError → A → A → Message → Option (List ℕ) → Option (List ℕ) → Type 0
+Exchanged answers (Ok x) old new message before after = Replied answers old new message before after
+Exchanged answers (Err error) old new message before after = Unreplied answers error old new message before after
+
+-- the connection ends with the exchange: it closes after the reply, or the reply wasn't written whole
+pub data EndsExchange {A : Type 0} (answers : A → Request → Reply → A → Type 0) (end : End) (old new : A) (message : Message) (before after : Option (List ℕ)) : Type 0 where
+  replied_last : message.head.closes ≡ true → end ≡ ends.Closed → Replied answers old new message before after → EndsExchange answers end old new message before after
+  unreplied_last : (error : SendError) → end ≡ end_unsent error → Unreplied answers error old new message before after → EndsExchange answers end old new message before after
+
+-- how a whole message leaves the connection: open after its reply, or ended
+abbrev pub Responds : {A : Type 0} → (A → Request → Reply → A → Type 0) → Option End → A → A → Message → Option (List ℕ) → Option (List ℕ) → Type 0
+Responds answers None old new message before after = (message.head.closes ≡ false) × Replied answers old new message before after
+Responds answers (Some end) old new message before after = EndsExchange answers end old new message before after
 
 -- the status of a refusal
-abbrev pub status_in : Reply → ℕ
-status_in (Refused status code detail) = status
-status_in _ = 0
+abbrev pub reply_status : Reply → ℕ
+reply_status (Refused status code detail) = status
+reply_status _ = 0
 
 -- how the refusal of a message ends a connection
 pub data RefusalEnds (end : End) (reply : Reply) (before after : Option (List ℕ)) : Type 0 where
-  written : end ≡ ends.Refused (status_in reply) → Appends before (reply_bytes None reply false true) after → RefusalEnds end reply before after
+  written : end ≡ ends.Refused (reply_status reply) → Appends before (reply_bytes None reply false true) after → RefusalEnds end reply before after
   stopped : (error : SendError) → end ≡ end_unsent error → StopsWriting error before (reply_bytes None reply false true) after → RefusalEnds end reply before after
 
 -- a message stood at the front, after which these bytes came, and was answered

@@ -1,7 +1,7 @@
 //! How a connection ends.
 
 /// How a connection ended.
-#[derive(Clone, Copy, Debug, PartialEq, Eq)]
+#[derive(Clone, Copy, Debug)]
 pub enum End {
     /// The input ended between messages, or the last request asked to close the connection; all replies were written.
     Closed,

@@ -1,4 +1,6 @@
-//! A session: the requests of one connection, answered in order.
+//! The requests of one connection, answered in order: each once, by the message that stands there, until the connection ends for a cause that `End` names.
+//!
+//! `session(alloc, &mut answers, &mut source, &mut sink)` reads `GET /v2/ HTTP/1.1` and an empty line from the source, asks `answers`, writes the reply, and gives `End::Closed` where the source ends there.
 #![tactic(auto)]
 
 mod answers;

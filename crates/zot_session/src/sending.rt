@@ -60,8 +60,10 @@ pub fn write_all<K: Sink>(sink: &mut K, bytes: &[u8]) -> Result<(), Failed>
 {
     let mut rest = bytes;
     while !rest.is_empty() {
-        let n = sink.write(rest)?;
-        rest = &rest[n..];
+        match sink.write(rest) {
+            Ok(n) => rest = &rest[n..],
+            Err(Failed) => return Err(Failed),
+        }
     }
     Ok(())
 }

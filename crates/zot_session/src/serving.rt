@@ -1,12 +1,12 @@
-//! A session: the requests of one connection, answered in order.
+//! A connection served, message by message.
 ghost use Rattle.std.specs.Prelude.{◌≡◌, ◌≤◌, Err, IfNone, IfSome, Some, length};
 ghost use Rattle.zot_model.specs.Fits.{Declines};
 ghost use Rattle.zot_model.specs.Valid.{body_limit};
 ghost use Rattle.zot_session.specs.Causes.{Causes, Counts};
 ghost use Rattle.zot_session.specs.Ends.{EndsAs, HasFailed};
-ghost use Rattle.zot_session.specs.Exchanges.{Conducts, is_head};
+ghost use Rattle.zot_session.specs.Exchanges.{Conducts};
 ghost use Rattle.zot_session.specs.Session.{Served};
-ghost use Rattle.zot_session.specs.Turn.{Answered, GoesOn, RefusalEnds, Stops, status_in};
+ghost use Rattle.zot_session.specs.Turn.{Exchanged, GoesOn, RefusalEnds, Responds, Stops, reply_status};
 ghost use Rattle.zot_session.specs.Waiting.{piece};
 ghost use Rattle.zot_session.specs.declared.end.End.TheVariants as ends;
 ghost use Rattle.zot_session.specs.declared.send_error.SendError.TheVariants as errors;
@@ -21,9 +21,9 @@ use std::alloc::Global;
 use zot_head::Head;
 use zot_model::Reply;
 use zot_outside::{Sink, Source};
-use zot_route::{Routed, route};
+use zot_route::{ParsedHead, Routed, route};
 
-// One turn: receives the next message and answers it, or ends the connection. What was answered before is let go where more than a piece is held.
+// One turn: receives the next message and answers it, or ends the connection. It lets go of what was answered before, where more than a piece is held.
 fn turn<A: Answers, C: Source, K: Sink>(
     alloc: Global,
     inbox: &mut Inbox,
@@ -39,15 +39,30 @@ fn turn<A: Answers, C: Source, K: Sink>(
     match receive(alloc, inbox, source, sink) {
         Err(end) => Some(end),
         Ok(Received::Refused(reply)) => Some(refuse(alloc, sink, &reply)),
-        Ok(Received::Whole(head, body)) => match answer(alloc, answers, sink, &head, body) {
-            Ok(()) => { if head.closes { Some(End::Closed) } else { None } }
-            Err(error) => Some(error.end()),
-        },
+        Ok(Received::Whole(head, body)) => respond(alloc, answers, sink, &head, body),
     }
 }
 
-// Answers a message and writes its reply.
-fn answer<A: Answers, K: Sink>(
+// Answers a whole message, and ends the connection where the message asks for it, or where the reply isn't written whole.
+fn respond<A: Answers, K: Sink>(
+    alloc: Global,
+    answers: &mut A,
+    sink: &mut K,
+    head: &Head,
+    body: Vec<u8>,
+) -> Option<End>
+    requires { length body.items ≤ body_limit }
+    ensures responds { Responds A.answers result answers.old answers.new (record { head = head.now; body = body.items }) (K.held sink.old) (K.held sink.new) }
+    ensures faults { Counts (result ≡ Some ends.WriteFault) (K.faults sink.old) (K.faults sink.new) }
+{
+    match exchange(alloc, answers, sink, head, body) {
+        Ok(()) => { if head.closes { Some(End::Closed) } else { None } }
+        Err(error) => Some(error.end()),
+    }
+}
+
+// One exchange: routes a whole message, has its request answered, and writes the reply.
+fn exchange<A: Answers, K: Sink>(
     alloc: Global,
     answers: &mut A,
     sink: &mut K,
@@ -55,10 +70,11 @@ fn answer<A: Answers, K: Sink>(
     body: Vec<u8>,
 ) -> Result<(), SendError>
     requires { length body.items ≤ body_limit }
-    ensures answered { Answered A.answers result answers.old answers.new (record { head = head.now; body = body.items }) (K.held sink.old) (K.held sink.new) }
+    ensures exchanged { Exchanged A.answers result answers.old answers.new (record { head = head.now; body = body.items }) (K.held sink.old) (K.held sink.new) }
     ensures faults { Counts (result ≡ Err errors.Fault) (K.faults sink.old) (K.faults sink.new) }
 {
-    match route(alloc, head, body) {
+    let parsed = ParsedHead::new(head);
+    match route(alloc, &parsed, body) {
         Err(_) => Err(SendError::NoMemory),
         Ok(Routed::Request(request)) => {
             let reply = answers.answer(alloc, &request);
@@ -67,22 +83,14 @@ fn answer<A: Answers, K: Sink>(
                 sink,
                 Some(&request),
                 &reply,
-                is_head(head),
+                parsed.hides_body(),
                 head.closes,
             )
         }
         Ok(Routed::Refused(reply)) => {
-            send(alloc, sink, None, &reply, is_head(head), head.closes)
+            send(alloc, sink, None, &reply, parsed.hides_body(), head.closes)
         }
     }
-}
-
-// Whether the method is HEAD.
-#[tactic(auto, unfolding(crate::specs::Exchanges::is_head))]
-fn is_head(head: &Head) -> bool
-    ensures { result ≡ is_head head.now }
-{
-    head.method.as_str() == "HEAD"
 }
 
 // Writes the refusal that closes the connection.
@@ -92,14 +100,14 @@ fn refuse<K: Sink>(alloc: Global, sink: &mut K, reply: &Reply) -> End
     ensures faults { Counts (result ≡ ends.WriteFault) (K.faults sink.old) (K.faults sink.new) }
 {
     match send(alloc, sink, None, reply, false, true) {
-        Ok(()) => End::Refused(status_of(reply)),
+        Ok(()) => End::Refused(reply_status(reply)),
         Err(error) => error.end(),
     }
 }
 
 // The status of a refusal.
-fn status_of(reply: &Reply) -> u16
-    ensures { result ≡ status_in reply.now }
+fn reply_status(reply: &Reply) -> u16
+    ensures { result ≡ reply_status reply.now }
 {
     match reply {
         Reply::Refused { status, .. } => *status,
@@ -107,7 +115,7 @@ fn status_of(reply: &Reply) -> u16
     }
 }
 
-/// Serves a connection: takes its bytes from the source, answers each request once and in order, and writes the replies to the sink, until the input ends, a request asks to close, a message is refused for its head or the form of its body, the connection has brought too much, or the source, the sink or memory fails. It holds the message at hand, and of the bytes taken besides at most one piece of 65,536.
+/// Serves a connection: takes its bytes from the source, answers each request once and in order, and writes the replies to the sink. It ends where the input ends, a request asks to close, a message is refused for its head or the form of its body, the connection has brought all that it may, or the source, the sink or memory fails. It holds the message at hand, and of the bytes taken besides at most one piece of 65,536.
 pub fn session<A: Answers, C: Source, K: Sink>(
     alloc: Global,
     answers: &mut A,

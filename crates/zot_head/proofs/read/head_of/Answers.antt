@@ -6,22 +6,22 @@ use Rattle.zot_head.proofs.ReadLemmas.{method_text, fields_at, texts_at}
 use Rattle.zot_head.proofs.read.head_of.Goals as goal
 
 pub words_at-requires-clause-text : goal.words_at-requires-clause-text
-words_at-requires-clause-text c = method_text c.args.bytes.now c.args.spans.now c.args.request.now c.requires.parts.0 c.requires.parts.1
+words_at-requires-clause-text c = method_text c.args.bytes.now c.args.spans.now c.args.request.now c.requires.reads.0 c.requires.reads.1
 
 pub fields_of-requires : goal.fields_of-requires
-fields_of-requires c = texts_at c.args.bytes.now c.args.spans.now c.args.request.now c.requires.parts.0 c.requires.within c.requires.parts.1
+fields_of-requires c = texts_at c.args.bytes.now c.args.spans.now c.args.request.now c.requires.reads.0 c.requires.within c.requires.reads.1
 
 pub returns-in_default-clause-bad : goal.returns-in_default-clause-bad
 returns-in_default-clause-bad c =
-    let at = c.requires.parts.1 in
-    let same : c.in_ok-fields.fields ≡ map field_of c.requires.parts.0.fields =
-    c.in_ok-fields.ensures ∙ fields_at c.args.bytes.now c.args.spans.now c.args.request.now c.requires.parts.0 at in
-    λ e. (c.requires.parts.0, at, ap framing_of (sym same) ∙ ap framing_of (sym c.as_slice.ensures) ∙ sym c.framing.ensures ∙ c.in_default.is)
+    let at = c.requires.reads.1 in
+    let same : c.in_ok-fields.fields ≡ map field_of c.requires.reads.0.fields =
+    c.in_ok-fields.ensures ∙ fields_at c.args.bytes.now c.args.spans.now c.args.request.now c.requires.reads.0 at in
+    λ e. (c.requires.reads.0, at, ap framing_of (sym same) ∙ ap framing_of (sym c.as_slice.ensures) ∙ sym c.framing.ensures ∙ c.in_default.is)
 
 pub returns-clause-head : goal.returns-clause-head
 returns-clause-head c =
-    let h = c.requires.parts.0 in
-    let at = c.requires.parts.1 in (
+    let h = c.requires.reads.0 in
+    let at = c.requires.reads.1 in (
       h,
       at,
       record {

@@ -2,7 +2,7 @@ use Rattle.std.proofs.Common.{[], sym, subst, refl, IsTrue}
 use Rattle.std.proofs.lemmas.Result.{IfOk-weaker}
 use Rattle.httparse.specs.Grammar.{RequestHead}
 use Rattle.httparse.specs.Spans.{IsRequestAt}
-use Rattle.zot_head.specs.Front.{HasParts, IsHead}
+use Rattle.zot_head.specs.Front.{IsHeadOf, IsHead}
 use Rattle.zot_head.proofs.ReadLemmas.{bad-too_long, bad-no_memory, too_long-bad, too_long-no_memory, not_crowded, whole_request, is_head, is_no_head, no_head, no_head-short, no_head-overflow}
 use Rattle.zot_head.proofs.read.read_head.Goals as goal
 
@@ -28,13 +28,13 @@ returns-else-request-bytes c =
     let found = rw c.in-Ok-Complete.field-0-is at c.in-Ok-Complete.ensures.complete in
     record {
       head = IfOk-weaker c.head_of.result
-          (λ head. (h : RequestHead) × IsRequestAt c.args.bytes.now c.parse_request.new.headers c.in-Ok-Complete.request h × HasParts h head)
+          (λ head. (h : RequestHead) × IsRequestAt c.args.bytes.now c.parse_request.new.headers c.in-Ok-Complete.request h × IsHeadOf h head)
           (IsHead c.args.bytes.now)
-          (λ head told. is_head c.args.bytes.now c.parse_request.new.headers c.in-Ok-Complete.request told.0 head few c.if-request-bytes.false told.1 told.2)
+          (λ head read. is_head c.args.bytes.now c.parse_request.new.headers c.in-Ok-Complete.request read.0 head few c.if-request-bytes.false read.1 read.2)
           c.head_of.ensures.head;
       bad = λ e.
-          let told = c.head_of.ensures.bad e in
-          is_no_head c.args.bytes.now c.parse_request.new.headers c.in-Ok-Complete.request told.0 few c.if-request-bytes.false told.1 told.2;
+          let read = c.head_of.ensures.bad e in
+          is_no_head c.args.bytes.now c.parse_request.new.headers c.in-Ok-Complete.request read.0 few c.if-request-bytes.false read.1 read.2;
       too_long = (λ e. absurd (c.head_of.ensures.few e), λ crowded. absurd (few crowded));
       no_memory = λ e. (found.0, whole_request c.args.bytes.now c.parse_request.new.headers c.in-Ok-Complete.request found.0 c.if-request-bytes.false found.1);
     }

@@ -1,5 +1,5 @@
 use Rattle.zot_route.proofs.OneLemmas.{answer_one}
-use Rattle.zot_route.proofs.ValidLemmas.{answer_declines, answer_valid}
+use Rattle.zot_route.proofs.ValidLemmas.{answer_declines, answer_hides, answer_valid}
 use Rattle.zot_route.proofs.message.route.Goals as goal
 
 pub returns : goal.returns
@@ -12,4 +12,5 @@ returns c =
       only = λ other is. answer_one head body given other c.outcome.ensures is;
       valid = answer_valid head body given c.outcome.ensures;
       declines = answer_declines head body given c.outcome.ensures;
+      hides = answer_hides head body given c.outcome.ensures;
     }

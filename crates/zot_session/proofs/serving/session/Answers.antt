@@ -8,7 +8,7 @@ pub returns-in_default-clause-served : goal.returns-in_default-clause-served
 returns-in_default-clause-served g c = never_began g.A.Answers.answers _ _ _
 
 pub returns-in-Some-clause-served : goal.returns-in-Some-clause-served
-returns-in-Some-clause-served g c = so_far_ends g.A.Answers.answers c.turns.invariant.session c.in-Some.ensures.ends
+returns-in-Some-clause-served g c = so_far_ends g.A.Answers.answers c.turns.invariant.served c.in-Some.ensures.ends
 
 pub returns-in-Some-clause-of_bytes : goal.returns-in-Some-clause-of_bytes
 returns-in-Some-clause-of_bytes g c = of_bytes (returns-in-Some-clause-served g c)
@@ -17,11 +17,11 @@ pub returns-in-Some-clause-causes : goal.returns-in-Some-clause-causes
 returns-in-Some-clause-causes g c = causes_map c.turns.invariant.reads c.turns.invariant.writes (λ e. cc e) (λ e. cc e) (λ e. cc e) (λ e. cc e) c.in-Some.ensures.causes
 
 pub turns-smaller : goal.turns-smaller
-turns-smaller g c = smaller g.A.Answers.answers c.turns.invariant.session.within c.in_default-turn.ensures.on
+turns-smaller g c = smaller g.A.Answers.answers c.turns.invariant.served.within c.in_default-turn.ensures.on
 
 pub turns-preserved : goal.turns-preserved
 turns-preserved g c = record {
-  session = so_far_more g.A.Answers.answers c.turns.invariant.session c.in_default-turn.ensures.on;
+  served = so_far_more g.A.Answers.answers c.turns.invariant.served c.in_default-turn.ensures.on;
   waits = c.in_default-turn.ensures.on.holds.waits;
   reads = c.in_default-turn.ensures.causes.read.kept (λ e. cc e) ∙ c.turns.invariant.reads;
   writes = c.in_default-turn.ensures.causes.write.kept (λ e. cc e) ∙ c.turns.invariant.writes;

@@ -2,7 +2,7 @@ use Rattle.std.proofs.Common.{ℕ, ◌+◌, ◌≤◌, List, length, take, drop,
 use Rattle.std.specs.List.{flat_map}
 use Rattle.std.proofs.lemmas.Result.{err_from_is_err_and}
 use Rattle.zot_head.specs.Progress.{Feeds}
-use Rattle.zot_head.proofs.PieceLemmas.{fed-behind, fed-then, failed-then, pieces-more, pieces-split, both_within, false_from_not, true_from_not}
+use Rattle.zot_head.proofs.PieceLemmas.{fed-after, fed-then, failed-then, pieces-more, pieces-split, both_within, false_from_not, true_from_not}
 use Rattle.zot_head.proofs.chunks.Chunks.feed_all.Goals as goal
 use Rattle.zot_head.proofs.chunks.Chunks.feed_all.Goals.{then-not-fed+in_ok-next, else-not-fed}
 
@@ -46,5 +46,5 @@ loop-piece-preserved c =
           c.loop-piece.out.items w.feed-then-not-fed.new.out.items c.loop-piece.invariant (false_from_not _ w.if-not-fed.true) next)
       | else-not-fed w ↦
           rw (more, w.self-is, w.out-is, w.fed-is)
-          (fed-behind c.args.self.now c.loop-piece.self bytes (bytes_of c.piece-item.result) c.loop-piece.fed c.args.out.now.items c.loop-piece.out.items c.loop-piece.invariant (true_from_not _ w.if-not-fed.false))
+          (fed-after c.args.self.now c.loop-piece.self bytes (bytes_of c.piece-item.result) c.loop-piece.fed c.args.out.now.items c.loop-piece.out.items c.loop-piece.invariant (true_from_not _ w.if-not-fed.false))
     ]

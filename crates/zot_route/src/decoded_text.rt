@@ -11,11 +11,11 @@ use std::marker::Model;
 
 /// A text of a target, decoded; where there was nothing to decode, it isn't copied. Contracts see the list of its bytes.
 #[derive(Drop)]
-pub struct Part<'a> {
+pub struct DecodedText<'a> {
     text: CowStr<'a>,
 }
 
-impl<'a> Model for Part<'a> {
+impl<'a> Model for DecodedText<'a> {
     ghost use Rattle.std.specs.Prelude.{ℕ, List};
     ghost use Rattle.std.specs.Cow.{cow_str_bytes};
 
@@ -24,21 +24,21 @@ impl<'a> Model for Part<'a> {
     ghost view = { λ p. cow_str_bytes p.text };
 }
 
-impl<'a> Part<'a> {
+impl<'a> DecodedText<'a> {
     /// A text that is decoded.
     pub fn new(text: CowStr<'a>) -> Self
         ensures { result ≡ cow_str_bytes text.entry }
     {
-        Part { text }
+        DecodedText { text }
     }
 
-    /// The part of a path that these bytes stand for, with its escapes decoded once (RFC 3986, section 2.1); none where it isn't UTF-8. It fails only where memory does.
-    pub fn read(alloc: Global, bytes: &'a [u8]) -> Result<Option<Part<'a>>, AllocError>
-        ensures { IfOk result (λ part. MatchOption part (¬ IsUtf8 (percent_decode bytes.now))
+    /// The segment of a path that these bytes stand for, with its escapes decoded once (RFC 3986, section 2.1); none where it isn't UTF-8. It fails only where memory does.
+    pub fn read(alloc: Global, bytes: &'a [u8]) -> Result<Option<DecodedText<'a>>, AllocError>
+        ensures { IfOk result (λ segment. MatchOption segment (¬ IsUtf8 (percent_decode bytes.now))
             (λ text. (text ≡ percent_decode bytes.now) × IsUtf8 (percent_decode bytes.now))) }
     {
         match percent_decode(bytes).decode_utf8(alloc) {
-            Ok(text) => Ok(Some(Part { text })),
+            Ok(text) => Ok(Some(DecodedText { text })),
             Err(DecodeError::Utf8(_)) => Ok(None),
             Err(DecodeError::OutOfMemory) => Err(AllocError),
         }

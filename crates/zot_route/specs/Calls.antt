@@ -1,7 +1,6 @@
--- What a path of each form asks with each method, or how it is refused. The cases of a form are asked in the order in which they stand.
-use Rattle.std.specs.Prelude.{◌≡◌, ◌≢◌, ℕ, ◌<◌, ◌≤◌, ◌^◌, ◌==◌, ◌⊎◌, if◌then◌else◌, List, length, Option, Some, None, Result, Ok, Err, codes}
+-- The call that a message makes, by its method, on a path of each form, or its refusal. Of several causes to refuse, the one that stands first counts.
+use Rattle.std.specs.Prelude.{◌≡◌, ◌≢◌, ℕ, ◌<◌, ◌≤◌, ◌^◌, ◌==◌, ◌⊎◌, if◌then◌else◌, List, length, Option, Some, None, Result, Ok, Err}
 use Rattle.std.specs.List.{list_any}
-use Rattle.std.specs.Str.{bytes_eq}
 use Rattle.zot_digest.specs.Digest.{digest_named}
 use Rattle.zot_head.specs.declared.field.Field.{Field}
 use Rattle.zot_head.specs.Fields.{length_of}
@@ -20,24 +19,13 @@ use Rattle.zot_model.specs.Valid.{manifest_limit}
 use Rattle.zot_names.specs.Name.{IsName}
 use Rattle.zot_names.specs.Tag.{IsTag}
 use Rattle.zot_names.specs.Upload.{upload_text}
-use Rattle.zot_route.specs.declared.verb.Verb.{Verb}
-use Rattle.zot_route.specs.declared.verb.Verb.TheVariants.{Delete, Get, Head, Other, Patch, Post, Put}
+use Rattle.zot_route.specs.declared.method.Method.{Method}
+use Rattle.zot_route.specs.declared.method.Method.TheVariants.{Delete, Get, Head, Other, Patch, Post, Put}
 use Rattle.zot_route.specs.Lines.{AreMedia}
 
--- a call, or the refusal of a message that asks for none
-abbrev pub Asked : Type 0
-Asked = Result Call Reply
-
--- the method that a text is (RFC 9110, section 9.1), compared as it stands
-unfoldable pub verb_of : List ℕ → Verb
-verb_of text =
-    if bytes_eq text (codes "GET") then Get
-    else if bytes_eq text (codes "HEAD") then Head
-    else if bytes_eq text (codes "PUT") then Put
-    else if bytes_eq text (codes "POST") then Post
-    else if bytes_eq text (codes "PATCH") then Patch
-    else if bytes_eq text (codes "DELETE") then Delete
-    else Other
+-- the call that a message makes, or the refusal of a message that makes none
+abbrev pub CallOrRefusal : Type 0
+CallOrRefusal = Result Call Reply
 
 -- ---- digests
 
@@ -47,7 +35,7 @@ digest_or (Some digest) = Ok digest
 digest_or None = Err (refusal DigestInvalid)
 
 -- a call on a digest
-abbrev pub on_digest : (List ℕ → Call) → Result (List ℕ) Reply → Asked
+abbrev pub on_digest : (List ℕ → Call) → Result (List ℕ) Reply → CallOrRefusal
 on_digest call (Ok digest) = Ok (call digest)
 on_digest call (Err reply) = Err reply
 
@@ -64,22 +52,22 @@ optional_digest (Some text) = some_digest (digest_or (digest_named text))
 -- ---- the base route, blobs and the lists
 
 -- `/v2/`
-abbrev pub asks_base : Verb → Asked
-asks_base Get = Ok calls.Base
-asks_base Head = Ok calls.Base
-asks_base _ = Err (not_allowed methods.Read)
+abbrev pub base_call : Method → CallOrRefusal
+base_call Get = Ok calls.Base
+base_call Head = Ok calls.Base
+base_call _ = Err (not_allowed methods.Read)
 
 -- `blobs/TEXT`
-abbrev pub asks_blob : Verb → List ℕ → Asked
-asks_blob Get text = on_digest calls.GetBlob (digest_or (digest_named text))
-asks_blob Head text = on_digest calls.HeadBlob (digest_or (digest_named text))
-asks_blob Delete text = on_digest calls.DeleteBlob (digest_or (digest_named text))
-asks_blob _ text = Err (not_allowed methods.Blob)
+abbrev pub blob_call : Method → List ℕ → CallOrRefusal
+blob_call Get text = on_digest calls.GetBlob (digest_or (digest_named text))
+blob_call Head text = on_digest calls.HeadBlob (digest_or (digest_named text))
+blob_call Delete text = on_digest calls.DeleteBlob (digest_or (digest_named text))
+blob_call _ text = Err (not_allowed methods.Blob)
 
 -- `referrers/TEXT`, with `artifactType` of the query
-abbrev pub asks_referrers : Verb → List ℕ → Option (List ℕ) → Asked
-asks_referrers Get text filter = on_digest (λ digest. calls.Referrers digest filter) (digest_or (digest_named text))
-asks_referrers _ text filter = Err (not_allowed methods.List)
+abbrev pub referrers_call : Method → List ℕ → Option (List ℕ) → CallOrRefusal
+referrers_call Get text filter = on_digest (λ digest. calls.Referrers digest filter) (digest_or (digest_named text))
+referrers_call _ text filter = Err (not_allowed methods.List)
 
 -- a number that has to be one
 abbrev pub some_number : Option ℕ → Result (Option ℕ) Reply
@@ -92,14 +80,14 @@ number_or None = Ok None
 number_or (Some text) = some_number (length_of text)
 
 -- a page of tags
-abbrev pub page_of : Option (List ℕ) → Result (Option ℕ) Reply → Asked
+abbrev pub page_of : Option (List ℕ) → Result (Option ℕ) Reply → CallOrRefusal
 page_of last (Ok n) = Ok (calls.Tags n last)
 page_of last (Err reply) = Err reply
 
 -- `tags/list`, with `n` and `last` of the query
-abbrev pub asks_tags : Verb → Option (List ℕ) → Option (List ℕ) → Asked
-asks_tags Get n last = page_of last (number_or n)
-asks_tags _ n last = Err (not_allowed methods.List)
+abbrev pub tags_call : Method → Option (List ℕ) → Option (List ℕ) → CallOrRefusal
+tags_call Get n last = page_of last (number_or n)
+tags_call _ n last = Err (not_allowed methods.List)
 
 -- ---- uploads
 
@@ -115,15 +103,15 @@ mount_of None from = None
 mount_of (Some digest) from = Some (record { digest = digest; from = from })
 
 -- the POST with these digests
-abbrev pub post_of : Option (List ℕ) → List ℕ → Result (Option (List ℕ)) Reply → Result (Option (List ℕ)) Reply → Asked
+abbrev pub post_of : Option (List ℕ) → List ℕ → Result (Option (List ℕ)) Reply → Result (Option (List ℕ)) Reply → CallOrRefusal
 post_of from body (Err reply) digest = Err reply
 post_of from body (Ok mount) (Err reply) = Err reply
 post_of from body (Ok mount) (Ok digest) = Ok (calls.Post (mount_of mount from) digest body)
 
 -- `blobs/uploads/`, with `mount`, `from` and `digest` of the query
-abbrev pub asks_post : Verb → Option (List ℕ) → Option (List ℕ) → Option (List ℕ) → List ℕ → Asked
-asks_post Post mount from digest body = post_of from body (optional_digest mount) (optional_digest digest)
-asks_post _ mount from digest body = Err (not_allowed methods.Begin)
+abbrev pub post_call : Method → Option (List ℕ) → Option (List ℕ) → Option (List ℕ) → List ℕ → CallOrRefusal
+post_call Post mount from digest body = post_of from body (optional_digest mount) (optional_digest digest)
+post_call _ mount from digest body = Err (not_allowed methods.Begin)
 
 -- the upload whose id a text is, or none
 abbrev pub IsId : List ℕ → Option ℕ → Type 0
@@ -141,22 +129,22 @@ needed_digest (Some text) = digest_or (digest_named text)
 needed_digest None = Err (refusal DigestInvalid)
 
 -- more bytes of an upload
-abbrev pub patch_of : Option ℕ → List ℕ → Result (Option Span) Reply → Asked
+abbrev pub patch_of : Option ℕ → List ℕ → Result (Option Span) Reply → CallOrRefusal
 patch_of id body (Ok range) = Ok (calls.Patch id range body)
 patch_of id body (Err reply) = Err reply
 
 -- the last bytes of an upload
-abbrev pub finish_of : Option ℕ → List ℕ → Result (List ℕ) Reply → Result (Option Span) Reply → Asked
+abbrev pub finish_of : Option ℕ → List ℕ → Result (List ℕ) Reply → Result (Option Span) Reply → CallOrRefusal
 finish_of id body (Err reply) range = Err reply
 finish_of id body (Ok digest) (Err reply) = Err reply
 finish_of id body (Ok digest) (Ok range) = Ok (calls.Finish id range digest body)
 
 -- `blobs/uploads/TEXT`, with `digest` of the query and `Content-Range`
-abbrev pub asks_upload : Verb → Option ℕ → Option (Option Span) → Option (List ℕ) → List ℕ → Asked
-asks_upload Get id range digest body = Ok (calls.UploadState id)
-asks_upload Patch id range digest body = patch_of id body (range_or range)
-asks_upload Put id range digest body = finish_of id body (needed_digest digest) (range_or range)
-asks_upload _ id range digest body = Err (not_allowed methods.Upload)
+abbrev pub upload_call : Method → Option ℕ → Option (Option Span) → Option (List ℕ) → List ℕ → CallOrRefusal
+upload_call Get id range digest body = Ok (calls.UploadState id)
+upload_call Patch id range digest body = patch_of id body (range_or range)
+upload_call Put id range digest body = finish_of id body (needed_digest digest) (range_or range)
+upload_call _ id range digest body = Err (not_allowed methods.Upload)
 
 -- ---- manifests
 
@@ -175,21 +163,21 @@ Refers text other (Ok reference) = IsReference text reference
 Refers text other (Err reply) = ((reference : Reference) → ¬ IsReference text reference) × (reply ≡ bad_reference text other)
 
 -- a call on a reference
-abbrev pub on_reference : (Reference → Call) → Result Reference Reply → Asked
+abbrev pub on_reference : (Reference → Call) → Result Reference Reply → CallOrRefusal
 on_reference call (Ok reference) = Ok (call reference)
 on_reference call (Err reply) = Err reply
 
 -- a manifest to be stored, in at most as many bytes as one may have
-abbrev pub Puts : List Field → List ℕ → Result Reference Reply → Asked → Type 0
-Puts fields body (Err reply) asked = asked ≡ Err reply
-Puts fields body (Ok reference) asked =
-    ((manifest_limit < length body) × (asked ≡ Err (refusal SizeInvalid)))
-    ⊎ ((length body ≤ manifest_limit) × (media : Option Media) × AreMedia fields body media × (asked ≡ Ok (calls.PutManifest reference media body)))
+abbrev pub IsPutCall : List Field → List ℕ → Result Reference Reply → CallOrRefusal → Type 0
+IsPutCall fields body (Err reply) call = call ≡ Err reply
+IsPutCall fields body (Ok reference) call =
+    ((manifest_limit < length body) × (call ≡ Err (refusal SizeInvalid)))
+    ⊎ ((length body ≤ manifest_limit) × (media : Option Media) × AreMedia fields body media × (call ≡ Ok (calls.PutManifest reference media body)))
 
 -- `manifests/TEXT`, with `Content-Type`
-abbrev pub AsksManifest : Verb → List ℕ → List Field → List ℕ → Asked → Type 0
-AsksManifest Get text fields body asked = (reference : Result Reference Reply) × Refers text (refusal ManifestUnknown) reference × (asked ≡ on_reference calls.GetManifest reference)
-AsksManifest Head text fields body asked = (reference : Result Reference Reply) × Refers text (refusal ManifestUnknown) reference × (asked ≡ on_reference calls.HeadManifest reference)
-AsksManifest Delete text fields body asked = (reference : Result Reference Reply) × Refers text (refusal ManifestUnknown) reference × (asked ≡ on_reference calls.DeleteManifest reference)
-AsksManifest Put text fields body asked = (reference : Result Reference Reply) × Refers text (refusal ManifestInvalid) reference × Puts fields body reference asked
-AsksManifest _ text fields body asked = asked ≡ Err (not_allowed methods.Manifest)
+abbrev pub IsManifestCall : Method → List ℕ → List Field → List ℕ → CallOrRefusal → Type 0
+IsManifestCall Get text fields body call = (reference : Result Reference Reply) × Refers text (refusal ManifestUnknown) reference × (call ≡ on_reference calls.GetManifest reference)
+IsManifestCall Head text fields body call = (reference : Result Reference Reply) × Refers text (refusal ManifestUnknown) reference × (call ≡ on_reference calls.HeadManifest reference)
+IsManifestCall Delete text fields body call = (reference : Result Reference Reply) × Refers text (refusal ManifestUnknown) reference × (call ≡ on_reference calls.DeleteManifest reference)
+IsManifestCall Put text fields body call = (reference : Result Reference Reply) × Refers text (refusal ManifestInvalid) reference × IsPutCall fields body reference call
+IsManifestCall _ text fields body call = call ≡ Err (not_allowed methods.Manifest)
