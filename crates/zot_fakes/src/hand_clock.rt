@@ -3,7 +3,7 @@ ghost use Rattle.std.specs.Prelude.{◌≡◌};
 
 use zot_outside::Clock;
 
-/// A clock that was set by hand and stands still. It tells its moment.
+/// A clock that is set by hand and stands still. It tells its moment.
 #[derive(Clone, Copy, Debug, PartialEq, Eq)]
 pub struct HandClock {
     moment: u64,
