@@ -4,7 +4,7 @@ ghost use Rattle.std.specs.Prelude.{◌≡◌};
 use zot_outside::Clock;
 
 /// A clock that is set by hand and stands still. It tells its moment.
-#[derive(Clone, Copy, Debug, PartialEq, Eq)]
+#[derive(Clone, Copy)]
 pub struct HandClock {
     moment: u64,
 }

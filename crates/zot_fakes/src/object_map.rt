@@ -45,8 +45,8 @@ impl ObjectMap {
         ensures { IfOk result (λ made. made ≡ objects_of (each (λ o. (string_bytes o.0, o.1.items)) objects.items)) }
     {
         let mut made = ObjectMap::new(alloc);
-        for (path, bytes) in objects {
-            made.set(Words::new(path), Bytes::new(bytes))?;
+        for object in objects {
+            made.set(Words::new(object.0), Bytes::new(object.1))?;
         }
         Ok(made)
     }
@@ -59,13 +59,31 @@ impl ObjectMap {
         self.tree.len()
     }
 
-    /// Sets the object of a path. After an `Err` the objects are as they were.
-    pub fn set(&mut self, path: Words, bytes: Bytes) -> Result<(), AllocError>
+    // Sets the object of a path. After an `Err` the objects are as they were.
+    fn set(&mut self, path: Words, bytes: Bytes) -> Result<(), AllocError>
         ensures ok { OnOk result (self.new ≡ with_object self.old path bytes) }
         ensures err { OnErr result (self.new ≡ self.old) }
     {
         self.tree.insert(path, bytes)?;
         Ok(())
+    }
+
+    /// Sets the object of a path. After an `Err` the objects are as they were.
+    pub fn put(&mut self, alloc: Global, path: &str, bytes: Bytes) -> Result<(), AllocError>
+        ensures ok { OnOk result (self.new ≡ with_object self.old path.now bytes) }
+        ensures err { OnErr result (self.new ≡ self.old) }
+    {
+        self.set(words(alloc, path)?, bytes)
+    }
+
+    /// A copy of the object of a path. It fails only where memory runs out.
+    pub fn copy_of(&self, alloc: Global, path: &str) -> Result<Option<Bytes>, AllocError>
+        ensures { IfOk result (λ found. found ≡ map.get self.now path.now) }
+    {
+        match self.get(alloc, path)? {
+            Some(bytes) => Ok(Some(bytes.copy(alloc)?)),
+            None => Ok(None),
+        }
     }
 
     /// The object of a path. It fails only where memory runs out.
@@ -105,7 +123,7 @@ impl ObjectMap {
     {
         let after = Bound::Excluded(words(alloc, after)?);
         match self.tree.range((after, Bound::Unbounded)).next() {
-            Some((path, _)) => Ok(Some(path)),
+            Some(entry) => Ok(Some(entry.0)),
             None => Ok(None),
         }
     }
@@ -122,8 +140,8 @@ fn extend(alloc: Global, bytes: &mut Bytes, more: &[u8]) -> Result<(), AllocErro
     extended
 }
 
-/// A copy of a text.
-pub fn words(alloc: Global, text: &str) -> Result<Words, AllocError>
+// A copy of a text.
+fn words(alloc: Global, text: &str) -> Result<Words, AllocError>
     ensures { IfOk result (λ words. words ≡ text.now) }
 {
     Ok(Words::new(String::from_str(alloc, text)?))

@@ -2,9 +2,8 @@
 ghost use Rattle.std.specs.Prelude.{◌≡◌, ◌<◌, ◌^◌, ◌≤◌, IfOk, OnErr, OnOk, length, drop, map as each, min, string_bytes, take};
 ghost use Rattle.std.specs.FinMap as map;
 ghost use Rattle.zot_fakes.specs.Given.{objects_of};
-ghost use Rattle.zot_outside.specs.Objects.{with_object};
 
-use crate::object_map::{ObjectMap, words};
+use crate::object_map::ObjectMap;
 use std::alloc::{AllocError, Global};
 use zot_digest::Bytes;
 use zot_outside::{Failed, Store, StoreError, StoreResult};
@@ -40,16 +39,6 @@ impl SteadyStore {
         prove!(objects.len() <= isize::MAX as usize);
         Ok(SteadyStore { objects })
     }
-
-    // Sets the object of a path. It fails only where memory runs out.
-    fn set(&mut self, alloc: Global, path: &str, bytes: Bytes) -> Result<(), AllocError>
-        ensures ok { OnOk result (steady_objects self.new ≡ with_object (steady_objects self.old) path.now bytes) }
-        ensures err { OnErr result (steady_objects self.new ≡ steady_objects self.old) }
-    {
-        self.objects.set(words(alloc, path)?, bytes)?;
-        prove!(self.objects.len() <= isize::MAX as usize);
-        Ok(())
-    }
 }
 
 impl Store for SteadyStore {
@@ -78,7 +67,8 @@ impl Store for SteadyStore {
 
     fn put(&mut self, alloc: Global, path: &str, bytes: &[u8]) -> StoreResult<()> {
         let bytes = Bytes::new(Vec::from_slice(alloc, bytes)?);
-        self.set(alloc, path, bytes)?;
+        self.objects.put(alloc, path, bytes)?;
+        prove!(self.objects.len() <= isize::MAX as usize);
         Ok(())
     }
 
@@ -89,11 +79,11 @@ impl Store for SteadyStore {
     }
 
     fn copy(&mut self, alloc: Global, from: &str, to: &str) -> StoreResult<()> {
-        let bytes = match self.objects.get(alloc, from)? {
-            Some(bytes) => bytes.copy(alloc)?,
-            None => return Err(StoreError::Missing),
+        let Some(bytes) = self.objects.copy_of(alloc, from)? else {
+            return Err(StoreError::Missing);
         };
-        self.set(alloc, to, bytes)?;
+        self.objects.put(alloc, to, bytes)?;
+        prove!(self.objects.len() <= isize::MAX as usize);
         Ok(())
     }
 
