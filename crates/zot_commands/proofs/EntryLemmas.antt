@@ -21,7 +21,7 @@ before_by : (told later : Option ℕ) (name : Option (List ℕ)) (request : Requ
 before_by told later None request reply Others Wanted entries h f k = f entries k
 before_by told later (Some name) request reply Others Wanted entries h f k = (k.0, k.1, of_before told later request reply k.0 h k.2, f k.1 k.3, k.4)
 
--- what is at the later moment is at the earlier, where the clock told it
+-- entries at the moment that the clock tells later are at the one that it told before
 entries_before : (told later : Option ℕ) (exchanges : List Exchange) (entries : List Entry) → StaysAt told later → AreEntries later exchanges entries → AreEntries told exchanges entries
 entries_before told later [] entries h k = k
 entries_before told later (answered message request reply ∷ exchanges) entries h k =
@@ -30,7 +30,7 @@ entries_before told later (declined message reply ∷ exchanges) entries h k = e
 
 -- ---- runs
 
--- a run behind the answer to one request more
+-- a request's entries and then those of a run
 records_over : (name : Option (List ℕ)) (told : Option ℕ) (old mid new : RowState) (request : Request) (reply : Reply) (exchanges : List Exchange) → AnswersOver name told old request reply mid → Records told mid exchanges new
     → (entries : List Entry) × StandBefore name (AreOf told request reply) (AreEntries told exchanges) entries × Run old entries new
 records_over None told old mid new request reply exchanges asked ran = (ran.0, ran.1, run_from AreSame Step same_alike old mid new ran.0 asked.1 ran.2)
@@ -40,22 +40,22 @@ records_over (Some name) told old mid new request reply exchanges asked ran = (
   run_append AreSame Step same_alike old mid new asked.2.entries ran.0 asked.2.run ran.2,
 )
 
--- what is at the later moment is at the earlier, where the clock told it
+-- the same of a run
 records_before : (told later : Option ℕ) (old new : RowState) (exchanges : List Exchange) → StaysAt told later → Records later old exchanges new → Records told old exchanges new
 records_before told later old new exchanges h ran = (ran.0, entries_before told later exchanges ran.0 h ran.1, ran.2)
 
--- what answers from a table and a clock that were lent: what the clock tells, the table, and which ones were lent
+-- what answers from a borrowed table and clock: what the clock tells, the table's state, and which table and clock they are
 module _ {A N M : Type 0} (told : A → Option ℕ) (row : A → RowState) (table : A → N) (clock : A → M) where
-  -- what it says of a request
-  abbrev pub Asked : A → Request → Reply → A → Type 0
-  Asked old request reply new = AnswersOver request.name (told old) (row old) request reply (row new) × StaysAt (told old) (told new) × (table new ≡ table old) × (clock new ≡ clock old)
+  -- one request was answered
+  abbrev pub AnswersOne : A → Request → Reply → A → Type 0
+  AnswersOne old request reply new = AnswersOver request.name (told old) (row old) request reply (row new) × StaysAt (told old) (told new) × (table new ≡ table old) × (clock new ≡ clock old)
 
-  -- what is known behind some exchanges
+  -- some exchanges were answered
   abbrev pub Ran : A → List Exchange → A → Type 0
   Ran old exchanges new = Records (told old) (row old) exchanges (row new) × StaysAt (told old) (told new) × (table new ≡ table old) × (clock new ≡ clock old)
 
   -- the exchanges of a connection make a run of the table
-  pub conducts_run : (old new : A) (exchanges : List Exchange) → Conducts Asked old exchanges new → Ran old exchanges new
+  pub conducts_run : (old new : A) (exchanges : List Exchange) → Conducts AnswersOne old exchanges new → Ran old exchanges new
   conducts_run old new [] h = (([], refl, subst (λ a. AreSame (row old) (row a)) (sym h) (same_itself (row old))), subst (λ a. StaysAt (told old) (told a)) (sym h) (stays_itself (told old)), ap table h, ap clock h)
   conducts_run old new (answered message request reply ∷ exchanges) h =
       let ran = conducts_run h.0 new exchanges h.2 in (

@@ -1,4 +1,4 @@
--- Texts written one behind another.
+-- Texts written one after another.
 use Rattle.std.proofs.Common.{◌≡◌, ℕ, List, ◌++◌, Option, sym, ap, ◌∙◌}
 use Rattle.std.specs.Prelude.{OnErr, OnOk, Result, Ok, Err}
 use Rattle.std.proofs.lemmas.List.{append_assoc}
@@ -15,10 +15,10 @@ part_of_both before after first second text is h = record {
   written = h.written;
 }
 
--- a part of the second text behind the first is a part of both
-pub part_behind : (before mid after : Option (List ℕ)) (first second text : List ℕ) → text ≡ first ++ second → Appends before first mid → WritesPart mid second after
+-- the first text and a part of the second are a part of both
+pub part_after : (before mid after : Option (List ℕ)) (first second text : List ℕ) → text ≡ first ++ second → Appends before first mid → WritesPart mid second after
     → WritesPart before text after
-part_behind before mid after first second text is h k = record {
+part_after before mid after first second text is h k = record {
   part = first ++ k.part;
   lost = k.lost;
   whole = is ∙ ap (λ t. first ++ t) k.whole ∙ sym (append_assoc first k.part k.lost);

@@ -14,12 +14,12 @@ use Rattle.zot_session.specs.Exchanges.{Exchange, answered, declined}
 abbrev pub AreOf : Option ℕ → Request → Reply → List Entry → Type 0
 AreOf told request reply entries = (moment : ℕ) × IsAt told moment × StandFor (Ask request) moment (answers.Reply reply) entries
 
--- in front of other entries stand those of a request, where it names a repository; the base route's stands outside every history
+-- a request's entries come first, then others; a request that names no repository has none
 abbrev pub StandBefore : Option (List ℕ) → (List Entry → Type 0) → (List Entry → Type 0) → List Entry → Type 0
 StandBefore None AreFirst AreOthers entries = AreOthers entries
 StandBefore (Some name) AreFirst AreOthers entries = (first : List Entry) × (others : List Entry) × AreFirst first × AreOthers others × (entries ≡ first ++ others)
 
--- the entries are those of the requests among some exchanges that name a repository, each request's once and in order, at the moment that the clock tells
+-- the entries of some exchanges: each request that names a repository has its own, once and in order, at the moment that the clock tells
 abbrev pub AreEntries : Option ℕ → List Exchange → List Entry → Type 0
 AreEntries told [] entries = entries ≡ []
 AreEntries told (answered message request reply ∷ exchanges) entries = StandBefore request.name (AreOf told request reply) (AreEntries told exchanges) entries
@@ -29,7 +29,7 @@ AreEntries told (declined message reply ∷ exchanges) entries = AreEntries told
 abbrev pub Records : Option ℕ → RowState → List Exchange → RowState → Type 0
 Records told old exchanges new = (entries : List Entry) × AreEntries told exchanges entries × Run old entries new
 
--- how a request that names this repository, or none, is answered over a row: by entries that stand for it at the moment that the clock tells, or with the base route's reply, for which the row stays
+-- a request was answered over a row. If it names a repository, entries stand for it, at the moment that the clock tells; else the reply is the base route's, and the row stays
 abbrev pub AnswersOver : Option (List ℕ) → Option ℕ → RowState → Request → Reply → RowState → Type 0
 AnswersOver None told old request reply new = (reply ≡ Base) × AreSame old new
 AnswersOver (Some name) told old request reply new = (moment : ℕ) × IsAt told moment × Enters old (Ask request) moment (answers.Reply reply) new

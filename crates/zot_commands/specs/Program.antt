@@ -1,4 +1,4 @@
--- The program's words, what a command did, its status and its line on notes.
+-- The program's words, what a command did, its exit status and its note.
 use Rattle.std.specs.Prelude.{◌≡◌, ◌≢◌, ℕ, List, [], ◌∷◌, ◌++◌, Option, Some, None, IfSome, ◌⊎◌, codes}
 use Rattle.std.specs.Fmt.{decimal}
 use Rattle.std.specs.declared.io.ErrorKind.{ErrorKind}
@@ -17,19 +17,19 @@ use Rattle.zot_commands.specs.Entries.{Records}
 unfoldable pub pipe_words : List (List ℕ)
 pipe_words = codes "pipe" ∷ []
 
--- the status of words that fit no command
+-- the exit status for words that fit no command
 abbrev pub words_status : ℕ
 words_status = 2
 
--- the status of an end of the connection of `pipe`
-abbrev pub status_of : End → ℕ
-status_of ends.Closed = 0
-status_of (ends.Refused status) = 3
-status_of (ends.Torn n) = 4
-status_of ends.ReadFault = 5
-status_of ends.WriteFault = 6
-status_of ends.Budget = 7
-status_of ends.NoMemory = 8
+-- the exit status for an end of the connection of `pipe`
+abbrev pub exit_status : End → ℕ
+exit_status ends.Closed = 0
+exit_status (ends.Refused status) = 3
+exit_status (ends.Torn n) = 4
+exit_status ends.ReadFault = 5
+exit_status ends.WriteFault = 6
+exit_status ends.Budget = 7
+exit_status ends.NoMemory = 8
 
 -- the end of a line: a space and a number, where there is one, and LF
 unfoldable pub line_end : Option ℕ → List ℕ
@@ -54,27 +54,27 @@ line_of ends.WriteFault = line (codes "zotd: write fault") None
 line_of ends.Budget = line (codes "zotd: budget") None
 line_of ends.NoMemory = line (codes "zotd: no memory") None
 
--- a text was written, or a part of it where the sink failed, and the sink's count of faults rose there alone
+-- a text was written, and the sink's count of faults stayed; or a part of it was, and the count rose
 abbrev pub Notes : List ℕ → Option (List ℕ) → Option (List ℕ) → ℕ → ℕ → Type 0
 Notes text before after faults_before faults_after =
     (Appends before text after × (faults_after ≡ faults_before)) ⊎ (WritesPart before text after × Rose faults_before faults_after)
 
--- a connection was served over a table that was empty before, at the moment that a clock tells, and ended so: where nothing failed, as its bytes say
+-- a connection was served over an empty table, at the moment that a clock tells, and ended so; where nothing failed, the end is the one that its bytes give
 pub record Pipes (told : Option ℕ) (end : End) (left_before left_after held_before held_after : Option (List ℕ)) : Type 0 where
   pub table : RowState
   pub served : Served (λ exchanges. Records told empty_row exchanges table) end left_before left_after held_before held_after
   pub of_bytes : ¬ HasFailed end → IfSome left_before (λ bytes. EndsAs bytes end)
 
--- `pipe` was run for these words: a connection was served, and the status and the note are those of its end
+-- where these are the words of `pipe`, a connection was served, and the status and the note are those of its end
 abbrev pub RunsPipe : List (List ℕ) → Option ℕ → ℕ → Option (List ℕ) → Option (List ℕ) → Option (List ℕ) → Option (List ℕ) → (List ℕ → Type 0) → Type 0
-RunsPipe words told code left_before left_after held_before held_after Noted = words ≡ pipe_words → (end : End) × Pipes told end left_before left_after held_before held_after × (code ≡ status_of end) × Noted (line_of end)
+RunsPipe words told code left_before left_after held_before held_after Noted = words ≡ pipe_words → (end : End) × Pipes told end left_before left_after held_before held_after × (code ≡ exit_status end) × Noted (line_of end)
 
--- words that fit no command were refused, and nothing but the note was touched
+-- where these words fit no command, they were refused, and nothing but the note was touched
 abbrev pub RefusesWords : List (List ℕ) → ℕ → Type 0 → (List ℕ → Type 0) → Type 0
 RefusesWords words code Untouched Noted = words ≢ pipe_words → (code ≡ words_status) × Untouched × Noted words_line
 
--- words that couldn't be read for an error of this kind were refused, and nothing but the note was touched: memory ran out, or they fit no command, since no command has words that are no text
+-- words that couldn't be read, for an error of this kind, were refused, and nothing but the note was touched. Where memory didn't run out they weren't text, and so fit no command
 pub record RefusesUnread (kind : ErrorKind) (code : ℕ) (Untouched : Type 0) (Noted : List ℕ → Type 0) : Type 0 where
-  pub memory : kind ≡ OutOfMemory → (code ≡ status_of ends.NoMemory) × Noted (line_of ends.NoMemory)
+  pub memory : kind ≡ OutOfMemory → (code ≡ exit_status ends.NoMemory) × Noted (line_of ends.NoMemory)
   pub text : kind ≢ OutOfMemory → (code ≡ words_status) × Noted words_line
   pub untouched : Untouched

@@ -1,6 +1,6 @@
 //! The commands of the registry's program: what it does for its words, over any clock, input, output and notes.
 //!
-//! `run_given(alloc, arguments, &mut clock, &mut input, &mut output, &mut notes)` runs the command and answers the status.
+//! `run_given(alloc, arguments, &mut clock, &mut input, &mut output, &mut notes)` runs the command and answers the exit status.
 #![tactic(auto)]
 
 mod notes;

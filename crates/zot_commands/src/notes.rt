@@ -1,4 +1,4 @@
-//! The program's lines on notes.
+//! The lines that the program notes.
 ghost use Rattle.std.specs.Prelude.{[], ◌∷◌, ◌++◌, OnOk, OnErr, decimal};
 ghost use Rattle.zot_outside.specs.Faults.{HasCause};
 ghost use Rattle.zot_outside.specs.Streams.{Appends};
@@ -9,7 +9,7 @@ use itoa::Buffer;
 use zot_outside::{Failed, Sink};
 use zot_session::{End, write_all};
 
-/// Notes how a connection ended that didn't end between messages. Takes no memory; a failing write is ignored.
+/// Notes how a connection ended, unless it was closed between messages. Takes no memory; a failing write is ignored.
 #[tactic(auto, unfolding(crate::specs::Program::line_of))]
 pub fn note_end<N: Sink>(notes: &mut N, end: End)
     ensures { Notes (line_of end) (N.held notes.old) (N.held notes.new) (N.faults notes.old) (N.faults notes.new) }
@@ -25,14 +25,14 @@ pub fn note_end<N: Sink>(notes: &mut N, end: End)
     }
 }
 
-/// Notes a line of words, and of a number behind a space where there is one. Takes no memory; a failing write is ignored.
+/// Notes a line: the words, then a space and the number if there is one. Takes no memory; a failing write is ignored.
 pub fn note<N: Sink>(notes: &mut N, words: &[u8], number: Option<u64>)
     ensures { Notes (line words.now number) (N.held notes.old) (N.held notes.new) (N.faults notes.old) (N.faults notes.new) }
 {
     let _ = write_line(notes, words, number);
 }
 
-// Writes a line, unless the sink fails.
+// Writes such a line, as far as the sink takes it.
 #[tactic(auto, unfolding(crate::specs::Program::line))]
 fn write_line<N: Sink>(notes: &mut N, words: &[u8], number: Option<u64>) -> Result<(), Failed>
     ensures cause { HasCause (N.faults notes.old) (N.faults notes.new) result }
@@ -43,7 +43,7 @@ fn write_line<N: Sink>(notes: &mut N, words: &[u8], number: Option<u64>) -> Resu
     write_end(notes, number)
 }
 
-// Writes the end of a line, unless the sink fails.
+// Writes what follows the words, as far as the sink takes it.
 #[tactic(auto, unfolding(crate::specs::Program::line_end))]
 fn write_end<N: Sink>(notes: &mut N, number: Option<u64>) -> Result<(), Failed>
     ensures cause { HasCause (N.faults notes.old) (N.faults notes.new) result }
@@ -56,7 +56,7 @@ fn write_end<N: Sink>(notes: &mut N, number: Option<u64>) -> Result<(), Failed>
     }
 }
 
-// Writes a space, a number and the end of the line, unless the sink fails.
+// Writes a space, a number and the end of the line, as far as the sink takes them.
 fn write_number<N: Sink>(notes: &mut N, n: u64) -> Result<(), Failed>
     ensures cause { HasCause (N.faults notes.old) (N.faults notes.new) result }
     ensures ok { OnOk result (Appends (N.held notes.old) (32 ∷ decimal n ++ 10 ∷ []) (N.held notes.new)) }

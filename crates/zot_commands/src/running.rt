@@ -5,7 +5,7 @@ ghost use Rattle.std.specs.declared.io.ErrorKind.TheVariants.{OutOfMemory};
 ghost use Rattle.zot_session.specs.Causes.{Causes};
 ghost use Rattle.zot_session.specs.declared.end.End.{End as AnEnd};
 ghost use Rattle.zot_session.specs.declared.end.End.TheVariants as ends;
-ghost use Rattle.zot_commands.specs.Program.{Notes, Pipes, RefusesUnread, RefusesWords, RunsPipe, line_of, pipe_words, status_of, words_line, words_status};
+ghost use Rattle.zot_commands.specs.Program.{Notes, Pipes, RefusesUnread, RefusesWords, RunsPipe, line_of, pipe_words, exit_status, words_line, words_status};
 
 use crate::notes::{note, note_end};
 use crate::status::Status;
@@ -17,7 +17,7 @@ use zot_outside::{Clock, Sink, Source};
 use zot_repo::RepoShard;
 use zot_session::End;
 
-/// Runs the command of the words that the system gave: the program's arguments after its name. Words that couldn't be read are refused: with the status 8 where memory ran out, and else, as no command has words that are no text, with the status 2.
+/// Runs the command of the program's arguments, of which the first is its name. Arguments that couldn't be read are refused: with the status 8 where memory ran out, else with the status 2, since no command has words that aren't text.
 pub fn run_given<T: Clock, C: Source, K: Sink, N: Sink>(
     alloc: Global,
     given: io::Result<Vec<String>>,
@@ -57,7 +57,7 @@ fn after_name(args: &[String]) -> &[String]
     }
 }
 
-/// Runs the command of these words: `pipe` serves one connection from the input to the output over an empty table in memory, at the moments of the clock. Other words are refused with the status 2, and nothing is read or written to the output for them.
+/// Runs the command of these words. `pipe` serves one connection from the input to the output, over an empty table in memory, at the moments of the clock. Other words are refused with the status 2: for them nothing is read, and nothing is written to the output.
 #[tactic(auto, unfolding(crate::specs::Program::words_line))]
 pub fn run_waiting<T: Clock, C: Source, K: Sink, N: Sink>(
     alloc: Global,
@@ -80,7 +80,7 @@ pub fn run_waiting<T: Clock, C: Source, K: Sink, N: Sink>(
     let end = pipe(alloc, clock, input, output);
     note_end(notes, end);
     Status {
-        code: status_of(end),
+        code: exit_status(end),
     }
 }
 
@@ -91,10 +91,10 @@ fn is_out_of_memory(error: &io::Error) -> bool
     error.kind() == ErrorKind::OutOfMemory
 }
 
-// Refuses words that couldn't be read, for want of memory or because they are no text.
+// Refuses words that couldn't be read: memory ran out, or they aren't text.
 #[tactic(auto, unfolding(crate::specs::Program::words_line, crate::specs::Program::line_of))]
 fn run_unread<N: Sink>(no_memory: bool, notes: &mut N) -> Status
-    ensures memory { no_memory ≡ true → (result.code ≡ status_of ends.NoMemory)
+    ensures memory { no_memory ≡ true → (result.code ≡ exit_status ends.NoMemory)
         × Notes (line_of ends.NoMemory) (N.held notes.old) (N.held notes.new) (N.faults notes.old) (N.faults notes.new) }
     ensures text { no_memory ≡ false → (result.code ≡ words_status)
         × Notes words_line (N.held notes.old) (N.held notes.new) (N.faults notes.old) (N.faults notes.new) }
@@ -119,9 +119,9 @@ fn is_pipe(words: &[String]) -> bool
     }
 }
 
-/// The status of an end of the connection of `pipe`.
-pub fn status_of(end: End) -> u8
-    ensures { result ≡ status_of end }
+/// The exit status for an end of the connection.
+pub fn exit_status(end: End) -> u8
+    ensures { result ≡ exit_status end }
 {
     match end {
         End::Closed => 0,

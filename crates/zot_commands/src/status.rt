@@ -1,8 +1,8 @@
-//! The program's status.
+//! The program's exit status.
 
 /// The status that the program ends with.
 #[derive(Clone, Copy, Debug, PartialEq, Eq)]
 pub struct Status {
-    /// 0 where the command was done, and else the cause.
+    /// 0 where the command was done, else the number of the cause.
     pub code: u8,
 }

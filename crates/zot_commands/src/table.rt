@@ -14,7 +14,7 @@ use zot_outside::{Clock, Sink, Source};
 use zot_repo::RepoShard;
 use zot_session::{Answers, End, session};
 
-// What answers the requests of a connection from a table, at the moments of a clock, both of which were lent.
+// Answers the requests of a connection from a table, at the moments of a clock. It borrows both.
 #[derive(Drop)]
 struct TableAnswers<'a, T: Clock> {
     table: &'a mut RepoShard,
@@ -43,7 +43,7 @@ impl<T: Clock> Answers for TableAnswers<'_, T> {
 }
 
 impl<T: Clock> TableAnswers<'_, T> {
-    // Serves a connection over the table and the clock that were lent.
+    // Serves a connection over the borrowed table and clock.
     fn serve<C: Source, K: Sink>(&mut self, alloc: Global, source: &mut C, sink: &mut K) -> End
         ensures same_table { self.new.table.ghost_name ≡ self.old.table.ghost_name }
         ensures same_clock { self.new.clock.ghost_name ≡ self.old.clock.ghost_name }

@@ -13,7 +13,7 @@ use Rattle.zot_outside.specs.Objects.{IsLast, IsNext, Objects, bytes_at, with_ob
 use Rattle.std.specs.FinMap as map
 use Rattle.zot_digest.specs.ByteMap.{byte_cmp, map_of}
 
--- what a tree says that was written through at a key where it has something
+-- a tree was written through at a key where it has something
 abbrev pub Written : List (List ℕ × List ℕ) → List ℕ → List ℕ → List (List ℕ × List ℕ) → Type 0
 Written es key bytes fs = (q : List ℕ) → lookup (is_at (byte_cmp q)) fs ≡ cond (is_at (byte_cmp key) q) (Some bytes) (lookup (is_at (byte_cmp q)) es)
 
@@ -21,7 +21,7 @@ Written es key bytes fs = (q : List ℕ) → lookup (is_at (byte_cmp q)) fs ≡ 
 pub map_of-written : (es fs : List (List ℕ × List ℕ)) (objects : Objects) (key bytes : List ℕ) → map_of es ≡ objects → Written es key bytes fs → map_of fs ≡ with_object objects key bytes
 map_of-written es fs objects key bytes is writes = entries-insert byte_order es fs key bytes writes ∙ ap (λ (m : Objects). with_object m key bytes) is
 
--- what a tree says that was written through at a key, if it has something there
+-- a tree was written through at a key, if it has something there
 abbrev pub Through : List (List ℕ × List ℕ) → List ℕ → List ℕ → List (List ℕ × List ℕ) → Type 0
 Through es key bytes fs = IsSome (lookup (is_at (byte_cmp key)) es)
     → Written es key bytes fs
@@ -62,10 +62,10 @@ made (Err e) before after objects key path piece more same named is none ok = tt
 not_greater : (first other : List ℕ) → byte_cmp other first ≡ Less → is_gt (byte_cmp first other) ≡ false → ⊥
 not_greater first other below up = true≢false (ap is_gt (sym (byte_order.total.antisymm first other ∙ ap ordering_reverse below)) ∙ up)
 
--- of the entries behind a path, the first has the next path
-pub first_behind : (tree : BTreeMap (List ℕ) (List ℕ)) (objects : Objects) (bound after : List ℕ) (e : List ℕ × List ℕ) (found rest : List (List ℕ × List ℕ)) → map_of tree.entries ≡ objects → bound ≡ after
+-- of the entries after a path, the first has the next path
+pub first_after : (tree : BTreeMap (List ℕ) (List ℕ)) (objects : Objects) (bound after : List ℕ) (e : List ℕ × List ℕ) (found rest : List (List ℕ × List ℕ)) → map_of tree.entries ≡ objects → bound ≡ after
     → found ≡ e ∷ rest → IsRangeOf byte_cmp (Excluded bound) Unbounded tree found → IsNext objects after e.0
-first_behind tree objects bound after e found rest is same begins range =
+first_after tree objects bound after e found rest is same begins range =
     let at = subst (λ r. IsRangeOf byte_cmp (Excluded bound) Unbounded tree r) begins range in
     let held = found_at byte_order tree.entries objects e.0 (Some e.1) is (sym at.1.1) in
     record {
@@ -74,10 +74,10 @@ first_behind tree objects bound after e found rest is same begins range =
       least = λ other there above below. not_greater e.0 other below (at.2 other (ap (λ b. byte_cmp b other) same ∙ above, tt) (ap is_some (sym (get-entries byte_order tree.entries other) ∙ ap (λ m. map.get m other) is) ∙ there));
     }
 
--- where there is no entry behind a path, no path is greater
-pub none_behind : (tree : BTreeMap (List ℕ) (List ℕ)) (objects : Objects) (bound after : List ℕ) (found : List (List ℕ × List ℕ)) → map_of tree.entries ≡ objects → bound ≡ after
+-- where there is no entry after a path, no path is greater
+pub none_after : (tree : BTreeMap (List ℕ) (List ℕ)) (objects : Objects) (bound after : List ℕ) (found : List (List ℕ × List ℕ)) → map_of tree.entries ≡ objects → bound ≡ after
     → found ≡ [] → IsRangeOf byte_cmp (Excluded bound) Unbounded tree found → IsLast objects after
-none_behind tree objects bound after found is same none range =
+none_after tree objects bound after found is same none range =
     λ other there above.
     let gone = found_at byte_order tree.entries objects other None is (sym (range.5 none other (ap (λ b. byte_cmp b other) same ∙ above, tt))) in
     cc (sym there ∙ ap is_some gone)

@@ -9,11 +9,11 @@ use Rattle.zot_fakes.specs.declared.steady_source.SteadySource.{SteadySource}
 use Rattle.zot_fakes.specs.declared.steady_store.SteadyStore.{SteadyStore}
 use Rattle.zot_outside.specs.Objects.{Objects}
 
--- the bytes that a source has left which never fails
+-- the bytes that are left of a source that never fails
 abbrev pub steady_left : SteadySource → List ℕ
 steady_left s = drop s.start s.bytes.items
 
--- the bytes that a source has left which fails by a list, how many of them a call gives at most, and its calls
+-- of a source that fails by a list: the bytes that are left, how many of them a call gives at most, and its calls
 abbrev pub source_left : MemorySource → List ℕ
 source_left s = steady_left s.source
 
@@ -23,7 +23,7 @@ source_piece s = s.piece
 abbrev pub source_calls : MemorySource → Count
 source_calls s = s.calls
 
--- the bytes that were written to a sink, how many of them a call takes at most, and its calls
+-- of a sink: the bytes that were written, how many of them a call takes at most, and its calls
 abbrev pub sink_held : MemorySink → List ℕ
 sink_held s = s.bytes.items
 
@@ -33,7 +33,7 @@ sink_piece s = s.piece
 abbrev pub sink_calls : MemorySink → Count
 sink_calls s = s.calls
 
--- the memory that a sink has is too small for so many bytes more
+-- the sink has no room for so many bytes more
 abbrev pub IsShortOf : ℕ → MemorySink → Type 0
 IsShortOf n s = vec_capacity s.bytes < length s.bytes.items + n
 
@@ -41,7 +41,7 @@ IsShortOf n s = vec_capacity s.bytes < length s.bytes.items + n
 abbrev pub steady_objects : SteadyStore → Objects
 steady_objects s = s.objects
 
--- the objects of a store that fails by a list, and its calls
+-- of a store that fails by a list: its objects and its calls
 abbrev pub memory_objects : MemoryStore → Objects
 memory_objects s = steady_objects s.store
 

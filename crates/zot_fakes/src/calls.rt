@@ -3,7 +3,7 @@ ghost use Rattle.std.specs.Prelude.{◌≡◌, ◌≤◌};
 
 use std::marker::Model;
 
-/// Which calls of an object are to fail, by their numbers from 1, and how many were made and have failed. Both counts stand still at the end of 64 bits.
+/// The numbers, from 1, of the calls that are to fail, how many calls were made, and how many of them failed. Both counts stop at 2^64 - 1.
 #[derive(Drop)]
 pub struct Calls {
     failing: Vec<u64>,
@@ -22,7 +22,7 @@ impl Model for Calls {
 impl Calls {
     ghost use Rattle.zot_fakes.specs.Calls.{counted, fails, one_more};
 
-    /// No calls yet, of which those with these numbers are to fail.
+    /// No calls yet. Those with these numbers are to fail.
     pub fn new(failing: Vec<u64>) -> Self
         ensures { result ≡ record { failing = failing.items; made = 0; faults = 0 } }
     {
@@ -33,7 +33,7 @@ impl Calls {
         }
     }
 
-    /// Counts a call, and answers whether it is to fail, as a fault then.
+    /// Counts a call, and answers whether it is to fail. If so it counts a fault too.
     pub fn next_fails(&mut self) -> bool
         ensures answer { result ≡ fails self.old }
         ensures counts { self.new ≡ counted self.old }

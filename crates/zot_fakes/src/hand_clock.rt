@@ -3,8 +3,8 @@ ghost use Rattle.std.specs.Prelude.{◌≡◌};
 
 use zot_outside::Clock;
 
-/// A clock that was set by hand and stands still. It tells its moment.
-#[derive(Clone, Copy, Debug, PartialEq, Eq)]
+/// A clock that is set by hand and stands still. It tells its moment.
+#[derive(Clone, Copy)]
 pub struct HandClock {
     moment: u64,
 }

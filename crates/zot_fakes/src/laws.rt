@@ -1,4 +1,4 @@
-//! What holds of every list of calls that are to fail.
+//! A law of the lists of calls that are to fail.
 ghost use Rattle.std.specs.Prelude.{◌≡◌, false, []};
 ghost use Rattle.zot_fakes.specs.Calls.{Count, counted, fails, one_more};
 

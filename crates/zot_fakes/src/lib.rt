@@ -1,4 +1,6 @@
-//! What stands in memory for the outside: sources, sinks, stores and a clock that tell all that they hold.
+//! Sources, sinks, stores and a clock in memory. They tell all that they hold, and fail exactly the calls whose numbers they are given.
+//!
+//! `MemoryStore::new(alloc, objects, failing)?` is a store of these objects, which fails the calls whose numbers, from 1, stand in `failing`.
 #![tactic(auto)]
 
 mod calls;

@@ -8,7 +8,7 @@ use crate::calls::Calls;
 use std::alloc::Global;
 use zot_outside::{Failed, Sink};
 
-/// A sink that keeps what is written, and tells it. It fails the calls of a list; another call fails only where memory runs out.
+/// A sink that keeps what is written, and tells it. It fails the calls of a list, and any other call only where memory runs out.
 #[derive(Drop)]
 pub struct MemorySink {
     bytes: Vec<u8>,
@@ -20,7 +20,7 @@ pub struct MemorySink {
 impl MemorySink {
     ghost use Rattle.zot_fakes.specs.Fakes.{sink_calls, sink_held, sink_piece};
 
-    /// A sink in which nothing is written yet, and which takes each piece whole. The calls whose numbers, from 1, are listed fail. Takes no memory.
+    /// An empty sink that takes each piece whole. The calls whose numbers, from 1, are listed fail. Takes no memory.
     pub fn new(alloc: Global, failing: Vec<u64>) -> Self
         ensures held { sink_held result ≡ [] }
         ensures piece { sink_piece result ≡ 2 ^ 64 - 1 }

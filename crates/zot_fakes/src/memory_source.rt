@@ -8,7 +8,7 @@ use crate::calls::Calls;
 use crate::steady_source::SteadySource;
 use zot_outside::{Failed, Source};
 
-/// A source of given bytes, which come in pieces. It tells the bytes that are left, and fails just the calls of a list.
+/// A source of given bytes, which come in pieces. It tells the bytes that are left, and fails exactly the calls of a list.
 #[derive(Drop)]
 pub struct MemorySource {
     source: SteadySource,

@@ -8,9 +8,9 @@ ghost use Rattle.zot_outside.specs.Objects.{Copies, Deletes, Extends, Follows, H
 use crate::calls::Calls;
 use crate::steady_store::SteadyStore;
 use std::alloc::{AllocError, Global};
-use zot_outside::{Failed, Store, StoreError};
+use zot_outside::{Failed, Store, StoreError, StoreResult};
 
-/// A store in memory that tells its objects, and fails just the calls of a list.
+/// A store in memory that tells its objects, and fails exactly the calls of a list.
 #[derive(Drop)]
 pub struct MemoryStore {
     store: SteadyStore,
@@ -20,7 +20,7 @@ pub struct MemoryStore {
 impl MemoryStore {
     ghost use Rattle.zot_fakes.specs.Fakes.{memory_calls, memory_objects};
 
-    /// A store of these objects, of which the last one of a path counts. The calls whose numbers, from 1, are listed fail.
+    /// A store of these objects; of those with one path the last counts. The calls whose numbers, from 1, are listed fail.
     pub fn new(
         alloc: Global,
         objects: Vec<(String, Vec<u8>)>,
@@ -46,7 +46,7 @@ impl Store for MemoryStore {
 
     ghost limited = { λ s. s.store.limited };
 
-    fn size(&mut self, alloc: Global, path: &str) -> Result<u64, StoreError>
+    fn size(&mut self, alloc: Global, path: &str) -> StoreResult<u64>
         ensures cause { HasStoreCause (memory_calls self.old).faults (memory_calls self.new).faults result }
         ensures kept { Keeps (Some (memory_objects self.old)) (Some (memory_objects self.new)) }
         ensures ok { IfOk result (λ n. HasSize (Some (memory_objects self.old)) path.now n) }
@@ -59,13 +59,7 @@ impl Store for MemoryStore {
         self.store.size(alloc, path)
     }
 
-    fn read(
-        &mut self,
-        alloc: Global,
-        path: &str,
-        at: u64,
-        buf: &mut [u8],
-    ) -> Result<usize, StoreError>
+    fn read(&mut self, alloc: Global, path: &str, at: u64, buf: &mut [u8]) -> StoreResult<usize>
         ensures cause { HasStoreCause (memory_calls self.old).faults (memory_calls self.new).faults result }
         ensures kept { Keeps (Some (memory_objects self.old)) (Some (memory_objects self.new)) }
         ensures ok { IfOk result (λ n. ReadsAt (Some (memory_objects self.old)) path.now at buf.new n) }
@@ -78,7 +72,7 @@ impl Store for MemoryStore {
         self.store.read(alloc, path, at, buf)
     }
 
-    fn put(&mut self, alloc: Global, path: &str, bytes: &[u8]) -> Result<(), StoreError>
+    fn put(&mut self, alloc: Global, path: &str, bytes: &[u8]) -> StoreResult<()>
         ensures cause { HasStoreCause (memory_calls self.old).faults (memory_calls self.new).faults result }
         ensures ok { OnOk result (Puts (Some (memory_objects self.old)) path.now bytes.now (Some (memory_objects self.new))) }
         ensures err { OnErr result (Keeps (Some (memory_objects self.old)) (Some (memory_objects self.new))) }
@@ -91,7 +85,7 @@ impl Store for MemoryStore {
         self.store.put(alloc, path, bytes)
     }
 
-    fn append(&mut self, alloc: Global, path: &str, bytes: &[u8]) -> Result<(), StoreError>
+    fn append(&mut self, alloc: Global, path: &str, bytes: &[u8]) -> StoreResult<()>
         ensures cause { HasStoreCause (memory_calls self.old).faults (memory_calls self.new).faults result }
         ensures ok { OnOk result (Extends (Some (memory_objects self.old)) path.now bytes.now (Some (memory_objects self.new))) }
         ensures err { OnErr result (Keeps (Some (memory_objects self.old)) (Some (memory_objects self.new))) }
@@ -104,7 +98,7 @@ impl Store for MemoryStore {
         self.store.append(alloc, path, bytes)
     }
 
-    fn copy(&mut self, alloc: Global, from: &str, to: &str) -> Result<(), StoreError>
+    fn copy(&mut self, alloc: Global, from: &str, to: &str) -> StoreResult<()>
         ensures cause { HasStoreCause (memory_calls self.old).faults (memory_calls self.new).faults result }
         ensures ok { OnOk result (Copies (Some (memory_objects self.old)) from.now to.now (Some (memory_objects self.new))) }
         ensures err { OnErr result (Keeps (Some (memory_objects self.old)) (Some (memory_objects self.new))) }
@@ -117,7 +111,7 @@ impl Store for MemoryStore {
         self.store.copy(alloc, from, to)
     }
 
-    fn delete(&mut self, alloc: Global, path: &str) -> Result<(), StoreError>
+    fn delete(&mut self, alloc: Global, path: &str) -> StoreResult<()>
         ensures cause { HasStoreCause (memory_calls self.old).faults (memory_calls self.new).faults result }
         ensures ok { OnOk result (Deletes (Some (memory_objects self.old)) path.now (Some (memory_objects self.new))) }
         ensures err { OnErr result (Keeps (Some (memory_objects self.old)) (Some (memory_objects self.new))) }
@@ -130,7 +124,7 @@ impl Store for MemoryStore {
         self.store.delete(alloc, path)
     }
 
-    fn next(&mut self, alloc: Global, after: &str) -> Result<Option<String>, StoreError>
+    fn next(&mut self, alloc: Global, after: &str) -> StoreResult<Option<String>>
         ensures cause { HasStoreCause (memory_calls self.old).faults (memory_calls self.new).faults result }
         ensures kept { Keeps (Some (memory_objects self.old)) (Some (memory_objects self.new)) }
         ensures ok { IfOk result (λ found. Follows (Some (memory_objects self.old)) after.now (option_map string_bytes found)) }
@@ -143,7 +137,7 @@ impl Store for MemoryStore {
         self.store.next(alloc, after)
     }
 
-    // A store that tells is never asked for this through the trait.
+    // A store that tells its objects is never asked for this through the trait.
     fn lost(&mut self) -> Failed
         ensures later { (memory_calls self.old).faults ≤ (memory_calls self.new).faults }
         ensures rose { Rose (memory_calls self.old).faults (memory_calls self.new).faults }

@@ -11,7 +11,7 @@ use std::mem;
 use std::ops::Bound;
 use zot_digest::{Bytes, Words};
 
-/// Objects in a tree by their paths. Contracts see the finite map from paths to bytes.
+/// Objects in a tree, by their paths. Contracts see the finite map from paths to bytes.
 #[derive(Drop)]
 pub struct ObjectMap {
     tree: BTreeMap<Words, Bytes>,
@@ -40,18 +40,18 @@ impl ObjectMap {
         }
     }
 
-    /// These objects, of which the last one of a path counts.
+    /// These objects; of those with one path the last counts.
     pub fn of(alloc: Global, objects: Vec<(String, Vec<u8>)>) -> Result<ObjectMap, AllocError>
         ensures { IfOk result (λ made. made ≡ objects_of (each (λ o. (string_bytes o.0, o.1.items)) objects.items)) }
     {
         let mut made = ObjectMap::new(alloc);
-        for (path, bytes) in objects {
-            made.set(Words::new(path), Bytes::new(bytes))?;
+        for object in objects {
+            made.set(Words::new(object.0), Bytes::new(object.1))?;
         }
         Ok(made)
     }
 
-    /// At least how many objects there are, which is below 2^63.
+    /// At least as many as there are objects, and fewer than 2^63.
     pub fn len(&self) -> usize
         ensures at_least { map.len self.now ≤ result }
         ensures few { result < 2 ^ 63 }
@@ -59,8 +59,8 @@ impl ObjectMap {
         self.tree.len()
     }
 
-    /// Sets the object of a path. After an `Err` the objects are as they were.
-    pub fn set(&mut self, path: Words, bytes: Bytes) -> Result<(), AllocError>
+    // Sets the object of a path. After an `Err` the objects are as they were.
+    fn set(&mut self, path: Words, bytes: Bytes) -> Result<(), AllocError>
         ensures ok { OnOk result (self.new ≡ with_object self.old path bytes) }
         ensures err { OnErr result (self.new ≡ self.old) }
     {
@@ -68,7 +68,25 @@ impl ObjectMap {
         Ok(())
     }
 
-    /// The object of a path. It fails only where memory does.
+    /// Sets the object of a path. After an `Err` the objects are as they were.
+    pub fn put(&mut self, alloc: Global, path: &str, bytes: Bytes) -> Result<(), AllocError>
+        ensures ok { OnOk result (self.new ≡ with_object self.old path.now bytes) }
+        ensures err { OnErr result (self.new ≡ self.old) }
+    {
+        self.set(words(alloc, path)?, bytes)
+    }
+
+    /// A copy of the object of a path. It fails only where memory runs out.
+    pub fn copy_of(&self, alloc: Global, path: &str) -> Result<Option<Bytes>, AllocError>
+        ensures { IfOk result (λ found. found ≡ map.get self.now path.now) }
+    {
+        match self.get(alloc, path)? {
+            Some(bytes) => Ok(Some(bytes.copy(alloc)?)),
+            None => Ok(None),
+        }
+    }
+
+    /// The object of a path. It fails only where memory runs out.
     pub fn get(&self, alloc: Global, path: &str) -> Result<Option<&Bytes>, AllocError>
         ensures { IfOk result (λ found. option_copied found ≡ map.get self.now path.now) }
     {
@@ -76,7 +94,7 @@ impl ObjectMap {
         Ok(self.tree.get(&key))
     }
 
-    /// Adds bytes at the end of the object of a path, or makes it of them where there is none. After an `Err` the objects are as they were.
+    /// Adds bytes at the end of the object of a path, or makes an object of them if there is none. After an `Err` the objects are as they were.
     pub fn append(&mut self, alloc: Global, path: &str, bytes: &[u8]) -> Result<(), AllocError>
         ensures ok { OnOk result (self.new ≡ with_object self.old path.now (bytes_at self.old path.now ++ bytes.now)) }
         ensures err { OnErr result (self.new ≡ self.old) }
@@ -99,19 +117,19 @@ impl ObjectMap {
         Ok(self.tree.remove(&key).is_some())
     }
 
-    /// The least path with an object that is greater than a path. It fails only where memory does.
+    /// The least path of an object that is greater than a path. It fails only where memory runs out.
     pub fn next(&self, alloc: Global, after: &str) -> Result<Option<&Words>, AllocError>
         ensures { IfOk result (λ found. Follows (Some self.now) after.now (option_copied found)) }
     {
         let after = Bound::Excluded(words(alloc, after)?);
         match self.tree.range((after, Bound::Unbounded)).next() {
-            Some((path, _)) => Ok(Some(path)),
+            Some(entry) => Ok(Some(entry.0)),
             None => Ok(None),
         }
     }
 }
 
-// Adds bytes behind others. After an `Err` these are as they were.
+// Adds bytes after others. After an `Err` these are as they were.
 fn extend(alloc: Global, bytes: &mut Bytes, more: &[u8]) -> Result<(), AllocError>
     ensures ok { OnOk result (bytes.new ≡ bytes.old ++ more.now) }
     ensures err { OnErr result (bytes.new ≡ bytes.old) }
@@ -122,8 +140,8 @@ fn extend(alloc: Global, bytes: &mut Bytes, more: &[u8]) -> Result<(), AllocErro
     extended
 }
 
-/// A text of its own.
-pub fn words(alloc: Global, text: &str) -> Result<Words, AllocError>
+// A copy of a text.
+fn words(alloc: Global, text: &str) -> Result<Words, AllocError>
     ensures { IfOk result (λ words. words ≡ text.now) }
 {
     Ok(Words::new(String::from_str(alloc, text)?))

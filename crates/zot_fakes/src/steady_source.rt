@@ -5,7 +5,7 @@ ghost use Rattle.zot_outside.specs.Streams.{Reads, Takes};
 
 use zot_outside::{Failed, Source};
 
-/// A source of given bytes that never fails: its count of faults is 0 for good. It tells the bytes that are left, and a call gives as many as the buffer has room for.
+/// A source of given bytes that never fails: its count of faults stays 0. It tells the bytes that are left, and a call gives as many as the buffer has room for.
 #[derive(Drop)]
 pub struct SteadySource {
     bytes: Vec<u8>,

@@ -2,14 +2,13 @@
 ghost use Rattle.std.specs.Prelude.{◌≡◌, ◌<◌, ◌^◌, ◌≤◌, IfOk, OnErr, OnOk, length, drop, map as each, min, string_bytes, take};
 ghost use Rattle.std.specs.FinMap as map;
 ghost use Rattle.zot_fakes.specs.Given.{objects_of};
-ghost use Rattle.zot_outside.specs.Objects.{with_object};
 
-use crate::object_map::{ObjectMap, words};
+use crate::object_map::ObjectMap;
 use std::alloc::{AllocError, Global};
 use zot_digest::Bytes;
-use zot_outside::{Failed, Store, StoreError};
+use zot_outside::{Failed, Store, StoreError, StoreResult};
 
-/// A store in memory that never fails: its count of faults is 0 for good. It tells its objects.
+/// A store in memory that never fails: its count of faults stays 0. It tells its objects.
 #[derive(Drop)]
 pub struct SteadyStore {
     objects: ObjectMap,
@@ -29,7 +28,7 @@ impl SteadyStore {
         SteadyStore { objects }
     }
 
-    /// A store of these objects, of which the last one of a path counts.
+    /// A store of these objects; of those with one path the last counts.
     pub(crate) fn of(
         alloc: Global,
         objects: Vec<(String, Vec<u8>)>,
@@ -39,16 +38,6 @@ impl SteadyStore {
         let objects = ObjectMap::of(alloc, objects)?;
         prove!(objects.len() <= isize::MAX as usize);
         Ok(SteadyStore { objects })
-    }
-
-    // Sets the object of a path. It fails only where memory does.
-    fn set(&mut self, alloc: Global, path: &str, bytes: Bytes) -> Result<(), AllocError>
-        ensures ok { OnOk result (steady_objects self.new ≡ with_object (steady_objects self.old) path.now bytes) }
-        ensures err { OnErr result (steady_objects self.new ≡ steady_objects self.old) }
-    {
-        self.objects.set(words(alloc, path)?, bytes)?;
-        prove!(self.objects.len() <= isize::MAX as usize);
-        Ok(())
     }
 }
 
@@ -62,48 +51,43 @@ impl Store for SteadyStore {
 
     ghost limited = { λ s. s.limited };
 
-    fn size(&mut self, alloc: Global, path: &str) -> Result<u64, StoreError> {
+    fn size(&mut self, alloc: Global, path: &str) -> StoreResult<u64> {
         match self.objects.get(alloc, path)? {
             Some(bytes) => Ok(bytes.as_slice().len() as u64),
             None => Err(StoreError::Missing),
         }
     }
 
-    fn read(
-        &mut self,
-        alloc: Global,
-        path: &str,
-        at: u64,
-        buf: &mut [u8],
-    ) -> Result<usize, StoreError> {
+    fn read(&mut self, alloc: Global, path: &str, at: u64, buf: &mut [u8]) -> StoreResult<usize> {
         match self.objects.get(alloc, path)? {
             Some(bytes) => Ok(copy_from(bytes.as_slice(), at, buf)),
             None => Err(StoreError::Missing),
         }
     }
 
-    fn put(&mut self, alloc: Global, path: &str, bytes: &[u8]) -> Result<(), StoreError> {
+    fn put(&mut self, alloc: Global, path: &str, bytes: &[u8]) -> StoreResult<()> {
         let bytes = Bytes::new(Vec::from_slice(alloc, bytes)?);
-        self.set(alloc, path, bytes)?;
+        self.objects.put(alloc, path, bytes)?;
+        prove!(self.objects.len() <= isize::MAX as usize);
         Ok(())
     }
 
-    fn append(&mut self, alloc: Global, path: &str, bytes: &[u8]) -> Result<(), StoreError> {
+    fn append(&mut self, alloc: Global, path: &str, bytes: &[u8]) -> StoreResult<()> {
         self.objects.append(alloc, path, bytes)?;
         prove!(self.objects.len() <= isize::MAX as usize);
         Ok(())
     }
 
-    fn copy(&mut self, alloc: Global, from: &str, to: &str) -> Result<(), StoreError> {
-        let bytes = match self.objects.get(alloc, from)? {
-            Some(bytes) => bytes.copy(alloc)?,
-            None => return Err(StoreError::Missing),
+    fn copy(&mut self, alloc: Global, from: &str, to: &str) -> StoreResult<()> {
+        let Some(bytes) = self.objects.copy_of(alloc, from)? else {
+            return Err(StoreError::Missing);
         };
-        self.set(alloc, to, bytes)?;
+        self.objects.put(alloc, to, bytes)?;
+        prove!(self.objects.len() <= isize::MAX as usize);
         Ok(())
     }
 
-    fn delete(&mut self, alloc: Global, path: &str) -> Result<(), StoreError> {
+    fn delete(&mut self, alloc: Global, path: &str) -> StoreResult<()> {
         let was = self.objects.remove(alloc, path)?;
         prove!(self.objects.len() <= isize::MAX as usize);
         if was {
@@ -113,14 +97,14 @@ impl Store for SteadyStore {
         }
     }
 
-    fn next(&mut self, alloc: Global, after: &str) -> Result<Option<String>, StoreError> {
+    fn next(&mut self, alloc: Global, after: &str) -> StoreResult<Option<String>> {
         match self.objects.next(alloc, after)? {
             Some(path) => Ok(Some(path.copy(alloc)?.into_string())),
             None => Ok(None),
         }
     }
 
-    // A store that tells is never asked for this through the trait.
+    // A store that tells its objects is never asked for this through the trait.
     fn lost(&mut self) -> Failed
         ensures { self.new ≡ self.old }
     {
@@ -128,7 +112,7 @@ impl Store for SteadyStore {
     }
 }
 
-// Fills a buffer with bytes from a place on, as far as they reach, and answers how many these are.
+// Fills a buffer with these bytes from a place on, as far as they reach, and answers how many there are.
 fn copy_from(bytes: &[u8], at: u64, buf: &mut [u8]) -> usize
     ensures within { result ≤ length buf.new }
     ensures piece { take result buf.new ≡ take (length buf.new) (drop at bytes.now) }

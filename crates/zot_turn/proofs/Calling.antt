@@ -1,4 +1,4 @@
--- What the calls promise, from what their steps told.
+-- What the calls promise, from what their steps say.
 use Rattle.std.proofs.Common.{append_assoc, ◌≡◌, ◌<◌, ◌≤◌, ◌+◌, ◌/◌, ℕ, max, List, [], ◌∷◌, ◌++◌, Bool, true, false, cond, ltb, length, Option, Some, None, sym, refl, ap, ◌∙◌, subst, arith, append-nil, length-append, ltb-true, ltb-false}
 use mathlib.Core.List.{IsPrefix}
 use mathlib.Core.Option.{none, some, some-injective}
@@ -8,7 +8,7 @@ use Rattle.zot_turn.specs.declared.known.Known.{Known}
 use Rattle.zot_history.specs.History.{Replays, signed, entries_of}
 use Rattle.zot_turn.specs.Turns.{history}
 use Rattle.zot_turn.specs.Seats.{numbers, acting, with_entries, HasOwn, longer, shorter}
-use Rattle.zot_turn.specs.Steps.{times, blank, Kept, HasNumber, Takes, MayGive, after_turn, Drawn, Settles, giver, taker, joined}
+use Rattle.zot_turn.specs.Steps.{times, blank, Kept, HasNumber, TakesTurn, MayGive, after_turn, Drawn, Settles, giver, taker, joined}
 use Rattle.zot_history.proofs.Prefixes.{prefix_refl}
 use Rattle.zot_turn.proofs.Lists.{each_append, each_left}
 use Rattle.zot_history.proofs.Histories.{replays_append}
@@ -49,7 +49,7 @@ module _ {O E : Type 0} where
   acting_is number turns me r = ap acting r.mine
 
 module _ {O E : Type 0} (step : O → ℕ → E → O → Type 0) (origin : O) (table : TableId) (number turns : ℕ) (me : Me (Option O) (Known O E)) (r : IsAtRest number turns me) (opening : me.0.opening ≡ Some origin) where
-  module _ (found : ℕ) (held : Me (Option O) (Known O E)) (t : Takes step found me held) (value : O) (slot : held.1 ≡ (0, Some value) ∷ []) where
+  module _ (found : ℕ) (held : Me (Option O) (Known O E)) (t : TakesTurn step found me held) (value : O) (slot : held.1 ≡ (0, Some value) ∷ []) where
     took_it : t.value ≡ value
     took_it = same_value t.value value me.1 (sym t.slot ∙ slot)
 
@@ -89,7 +89,7 @@ module _ {O E : Type 0} (step : O → ℕ → E → O → Type 0) (origin : O) (
           others = r.others;
           mine = ap (with_entries es) r.mine;
           count = omega (arith, t.count, length-append (me.0.turns ++ t.others) ((acting me.0.mine, es) ∷ []));
-          told = r.told;
+          beside = r.beside;
           ready = r.ready;
           holding = refl;
           slots = refl;
@@ -149,11 +149,11 @@ module _ {O E : Type 0} (table : TableId) (number turns : ℕ) (me : Me (Option 
 
   pub giver_rests : (given : Me (Option O) (Known O E)) → given ≡ (giver drawn.0, drawn.1) → IsAtRest number turns given
   giver_rests given is = subst (λ (m : Me (Option O) (Known O E)). IsAtRest number turns m) (sym (is ∙ (λ i. (giver (d.view i).0, (d.view i).1))))
-      (record { entries = r.entries; others = r.others; mine = r.mine; count = r.count; told = r.told; ready = refl; holding = r.holding; slots = r.slots })
+      (record { entries = r.entries; others = r.others; mine = r.mine; count = r.count; beside = r.beside; ready = refl; holding = r.holding; slots = r.slots })
 
   pub taker_rests : (taken : Me (Option O) (Known O E)) → taken ≡ (taker drawn.0, []) → IsAtRest n turns taken
   taker_rests taken is = subst (λ (m : Me (Option O) (Known O E)). IsAtRest n turns m) (sym (is ∙ (λ i. (taker (d.view i).0, []))))
-      (record { entries = []; others = []; mine = ap blank one_ready; count = r.count; told = refl; ready = refl; holding = refl; slots = refl })
+      (record { entries = []; others = []; mine = ap blank one_ready; count = r.count; beside = refl; ready = refl; holding = refl; slots = refl })
 
   parted_views : Parted (standing_of table me.0) (standing_of table (giver drawing_view)) (standing_of table (taker drawing_view))
   parted_views = record {
@@ -173,9 +173,9 @@ module _ {O E : Type 0} (table : TableId) (number turns : ℕ) (me : Me (Option 
       subst (λ (s : Standing O E × Standing O E). Parted (standing_of table me.0) s.0 s.1) (λ i. (standing_of (sym a i) (sym given_as i), standing_of (sym b i) (sym taken_as i))) parted_views
 
 module _ {O E : Type 0} (step : O → ℕ → E → O → Type 0) (origin : O) (table : TableId) (number turns : ℕ) (me : Me (Option O) (Known O E)) (r : IsAtRest number turns me) (opening : me.0.opening ≡ Some origin) (theirs : ℕ) (count : ℕ) (other : Me (Option O) (Known O E)) (q : IsAtRest theirs count other)
-    (both now : Me (Option O) (Known O E)) (both_is : both ≡ (joined me.0 other.0, me.1)) (slots found : ℕ) (told : Settles step (Rattle.atomic_table.specs.Table.step slots 0 0 0 none) both found now) where
-  now_is_joined : now ≡ (record (joined me.0 other.0) { told = [] }, me.1)
-  now_is_joined = told.view ∙ (λ i. (record (both_is i).0 { told = [] }, (both_is i).1))
+    (both now : Me (Option O) (Known O E)) (both_is : both ≡ (joined me.0 other.0, me.1)) (slots found : ℕ) (settled : Settles step (Rattle.atomic_table.specs.Table.step slots 0 0 0 none) both found now) where
+  now_is_joined : now ≡ (record (joined me.0 other.0) { beside = [] }, me.1)
+  now_is_joined = settled.view ∙ (λ i. (record (both_is i).0 { beside = [] }, (both_is i).1))
 
   longer_length : (xs ys : List (ℕ × List E)) → max (length xs) (length ys) ≡ length (longer xs ys)
   longer_length xs ys = by_test (ltb (length xs) (length ys)) refl
@@ -190,14 +190,14 @@ module _ {O E : Type 0} (step : O → ℕ → E → O → Type 0) (origin : O) (
     others = r.others ++ other.0.mine;
     mine = ap (λ (l : List (ℕ × List E)). l ++ other.0.mine) r.mine;
     count = is ∙ (λ i. max (r.count i) (q.count i)) ∙ longer_length me.0.turns other.0.turns;
-    told = refl;
+    beside = refl;
     ready = λ i. r.ready i ++ q.ready i;
     holding = r.holding;
     slots = r.slots;
   })
 
   begins : IsPrefix (shorter me.0.turns other.0.turns) (longer me.0.turns other.0.turns)
-  begins = subst (λ (m : Me (Option O) (Known O E)). IsPrefix m.0.told m.0.turns) both_is told.begins
+  begins = subst (λ (m : Me (Option O) (Known O E)). IsPrefix m.0.beside m.0.turns) both_is settled.begins
 
   both_begins : (xs ys : List (ℕ × List E)) → IsPrefix (shorter xs ys) (longer xs ys) → IsPrefix xs (longer xs ys) × IsPrefix ys (longer xs ys)
   both_begins xs ys = by_case (ltb (length xs) (length ys))
@@ -207,19 +207,19 @@ module _ {O E : Type 0} (step : O → ℕ → E → O → Type 0) (origin : O) (
       by_case false h = (prefix_refl xs, h)
 
   joined_legal : (value : O) × Replays step origin (history (longer me.0.turns other.0.turns)) value
-  joined_legal = subst (λ (m : Me (Option O) (Known O E)). (value : O) × Replays step origin (history m.0.turns) value) both_is (told.legal origin ((λ i. (both_is i).0.opening) ∙ opening))
+  joined_legal = subst (λ (m : Me (Option O) (Known O E)). (value : O) × Replays step origin (history m.0.turns) value) both_is (settled.legal origin ((λ i. (both_is i).0.opening) ∙ opening))
 
-  joined_views : Joined step (standing_of table me.0) (standing_of table other.0) (standing_of table (record (joined me.0 other.0) { told = [] }))
+  joined_views : Joined step (standing_of table me.0) (standing_of table other.0) (standing_of table (record (joined me.0 other.0) { beside = [] }))
   joined_views = let h = both_begins me.0.turns other.0.turns begins in record {
     known = refl;
     first = h.0;
     second = h.1;
-    own = subst (λ (m : Me (Option O) (Known O E)). HasOwn m.0.mine (history m.0.turns)) both_is told.own;
+    own = subst (λ (m : Me (Option O) (Known O E)). HasOwn m.0.mine (history m.0.turns)) both_is settled.own;
     distinct = λ n a b. absurd (omega (
       arith,
       times_contained n (numbers me.0.mine) a,
       times_contained n (numbers other.0.mine) b,
-      subst (λ (m : Me (Option O) (Known O E)). times n (numbers m.0.mine) ≤ 1) both_is (told.apart n),
+      subst (λ (m : Me (Option O) (Known O E)). times n (numbers m.0.mine) ≤ 1) both_is (settled.apart n),
       ap (times n) (numbers-append me.0.mine other.0.mine),
       times-append n (numbers me.0.mine) (numbers other.0.mine),
     ));

@@ -11,7 +11,7 @@ use Rattle.zot_turn.specs.declared.known.Known.{Known}
 use Rattle.zot_history.specs.History.{Replays}
 use Rattle.zot_turn.specs.Turns.{history, turns_of}
 use Rattle.zot_turn.specs.Seats.{numbers, acting}
-use Rattle.zot_turn.specs.Steps.{times, total, once, blank, owned, Fits, Recorded, Kept, HasNumber}
+use Rattle.zot_turn.specs.Steps.{times, total, once, blank, owned, Knows, Recorded, Kept, HasNumber}
 use Rattle.zot_turn.proofs.Totals.{total_set, total_at, total_two, place_within, times_first, times-append, numbers-append, numbers_blank}
 
 pub once_some : (b : Bool) → 0 < once b → b ≡ true
@@ -62,17 +62,17 @@ module _ {O E : Type 0} where
       (λ (ne : r.id ≢ id). record { id = r.id; view = r.view; by = r.by; there = set_else views id r.id w ne ∙ r.there; less = r.less; its = r.its; noted = r.noted })
 
 module _ {O E : Type 0} (step : O → ℕ → E → O → Type 0) (origin : O) where
-  pub fits_set : (log : List (ℕ × List E)) (drawn : ℕ) (views : List (Known O E)) (id : ℕ) (w : Known O E)
-      → ((j : ℕ) (u : Known O E) → j ≢ id → get_elem? views j ≡ some u → Fits origin log drawn u) → Fits origin log drawn w
-      → (j : ℕ) (u : Known O E) → get_elem? (set views id w) j ≡ some u → Fits origin log drawn u
-  fits_set log drawn views id w others mine j u e = ⊎_elim
-      (λ (x : (j ≡ id) × (w ≡ u)). subst (Fits origin log drawn) x.1 mine)
+  pub knows_set : (log : List (ℕ × List E)) (drawn : ℕ) (views : List (Known O E)) (id : ℕ) (w : Known O E)
+      → ((j : ℕ) (u : Known O E) → j ≢ id → get_elem? views j ≡ some u → Knows origin log drawn u) → Knows origin log drawn w
+      → (j : ℕ) (u : Known O E) → get_elem? (set views id w) j ≡ some u → Knows origin log drawn u
+  knows_set log drawn views id w others mine j u e = ⊎_elim
+      (λ (x : (j ≡ id) × (w ≡ u)). subst (Knows origin log drawn) x.1 mine)
       (λ (x : (j ≢ id) × (get_elem? views j ≡ some u)). others j u x.0 x.1)
       (at_set views id j w u e)
 
   -- the rule where the views alone are others
   pub reviewed : (s : State (Option O) (Known O E)) (k : Kept step origin s) (views : List (Known O E))
-      → ((j : ℕ) (u : Known O E) → get_elem? views j ≡ some u → Fits origin k.log k.drawn u)
+      → ((j : ℕ) (u : Known O E) → get_elem? views j ≡ some u → Knows origin k.log k.drawn u)
       → ((n : ℕ) → total (λ u. times n (numbers (owned u))) views ≡ total (λ u. times n (numbers (owned u))) s.views)
       → ((n : ℕ) → Recorded n s.views → Recorded n views)
       → total (λ u. once u.holding) views ≡ total (λ u. once u.holding) s.views
@@ -99,8 +99,8 @@ module _ {O E : Type 0} (step : O → ℕ → E → O → Type 0) (origin : O) w
       → words ≡ (2 * length log + once held) ∷ drawn ∷ []
       → Replays step origin (history log) value
       → homes ≡ cond held none (some (Some value)) ∷ []
-      → ((j : ℕ) (u : Known O E) → j ≢ id → get_elem? s.views j ≡ some u → Fits origin log drawn u)
-      → Fits origin log drawn w
+      → ((j : ℕ) (u : Known O E) → j ≢ id → get_elem? s.views j ≡ some u → Knows origin log drawn u)
+      → Knows origin log drawn w
       → ((n : ℕ) → times n (numbers (owned w)) + once (ltb n k.drawn) ≡ times n (numbers (owned v)) + once (ltb n drawn))
       → ((n : ℕ) → n < drawn → n ≢ 0 → Recorded n (set s.views id w))
       → ((n : ℕ) → drawn ≤ n → turns_of n log ≡ [])
@@ -115,7 +115,7 @@ module _ {O E : Type 0} (step : O → ℕ → E → O → Type 0) (origin : O) w
     words = ws;
     legal = legal;
     slot = slot;
-    known = fits_set log drawn s.views id w others mine;
+    known = knows_set log drawn s.views id w others mine;
     apart = λ n.
         let f : Known O E → ℕ = λ u. times n (numbers (owned u)) in
         omega (arith, total_set f s.views id v w at, k.apart n, apart n);
@@ -165,7 +165,7 @@ module _ {O E : Type 0} (step : O → ℕ → E → O → Type 0) (origin : O) w
 pub same_still : {O E : Type 0} (now was first : Me (Option O) (Known O E)) → now ≡ was → was ≡ first → now ≡ first
 same_still now was first a b = a ∙ b
 
--- what a compare and exchange tells where it found the word expected, and where it did not
+-- what a compare and exchange says where it found the word expected, and where it did not
 pub hit : (P Q : Type 0) (n old : ℕ) → n ≡ old → MatchBool (n == old) P Q → P
 hit P Q n old e h = subst (λ (b : Bool). MatchBool b P Q) (eq-eqb n old e) h
 

@@ -77,7 +77,7 @@ module _ {O E : Type 0} (step : O → ℕ → E → O → Type 0) (origin : O) w
         let same = its_view acts.0 found.id found.view found.there acts.1 mine in
         never (sym idle ∙ ap (λ (u : Known O E). u.holding) (sym same) ∙ busy)
 
-    -- nothing stands behind what the seat has seen
+    -- nothing stands after what the seat has seen
     none_after : (more : List (ℕ × List E)) → v.turns ++ more ≡ k.log → more ≡ []
     none_after [] e = refl
     none_after (t ∷ ts) e =

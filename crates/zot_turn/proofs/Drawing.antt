@@ -13,7 +13,7 @@ use Rattle.zot_turn.specs.declared.known.Known.{Known}
 use Rattle.zot_history.specs.History.{entries_of}
 use Rattle.zot_turn.specs.Turns.{history, turns_of}
 use Rattle.zot_turn.specs.Seats.{numbers, acting, HasOwn}
-use Rattle.zot_turn.specs.Steps.{times, once, blank, owned, Fits, Recorded, Kept, HasNumber, Drawn, Draws}
+use Rattle.zot_turn.specs.Steps.{times, once, blank, owned, Knows, Recorded, Kept, HasNumber, Drawn, Draws}
 use Rattle.zot_turn.proofs.Lists.{each_map, each_append}
 use Rattle.zot_turn.proofs.Turns.{idle_entries, idle_begin}
 use Rattle.zot_turn.proofs.Totals.{times-append, times_one, times_other, times_rest, numbers-append, total_at, place_within}
@@ -50,16 +50,16 @@ module _ {O E : Type 0} (step : O → ℕ → E → O → Type 0) (origin : O) w
   times_drawer : (m n : ℕ) (v : Known O E) → times m (numbers (owned (drawer n v))) ≡ times m (numbers (owned v)) + times m (n ∷ [])
   times_drawer m n v = ap (times m) (ap numbers (owned_drawer n v) ∙ numbers-append (owned v) ((n, []) ∷ [])) ∙ times-append m (numbers (owned v)) (n ∷ [])
 
-  more_drawn : (log : List (ℕ × List E)) (d : ℕ) (v : Known O E) → Fits origin log d v → Fits origin log (d + 1) v
-  more_drawn log d v f = record { opening = f.opening; seen = f.seen; told = f.told; whole = f.whole; own = f.own; given = each_map (λ n. n < d) (λ n. n < d + 1) v.gave (λ n h. omega arith) f.given; shown = f.shown; holds = f.holds; acts = f.acts }
+  more_drawn : (log : List (ℕ × List E)) (d : ℕ) (v : Known O E) → Knows origin log d v → Knows origin log (d + 1) v
+  more_drawn log d v f = record { opening = f.opening; seen = f.seen; beside = f.beside; whole = f.whole; own = f.own; given = each_map (λ n. n < d) (λ n. n < d + 1) v.gave (λ n h. omega arith) f.given; shown = f.shown; holds = f.holds; acts = f.acts }
 
-  fits_drawer : (log : List (ℕ × List E)) (d : ℕ) (v : Known O E) → turns_of d log ≡ [] → Fits origin log d v → Fits origin log (d + 1) (drawer d v)
-  fits_drawer log d v none_yet f =
+  knows_drawer : (log : List (ℕ × List E)) (d : ℕ) (v : Known O E) → turns_of d log ≡ [] → Knows origin log d v → Knows origin log (d + 1) (drawer d v)
+  knows_drawer log d v none_yet f =
       let idle : turns_of d v.turns ≡ [] = idle_begin d v.turns log f.seen none_yet in
       record {
         opening = f.opening;
         seen = f.seen;
-        told = f.told;
+        beside = f.beside;
         whole = subst (AllByRecursion (λ (m : ℕ × List E). turns_of m.0 log ≡ turns_of m.0 v.turns)) (sym (owned_drawer d v))
             (each_append (λ m. turns_of m.0 log ≡ turns_of m.0 v.turns) (owned v) ((d, []) ∷ []) f.whole (none_yet ∙ sym idle, tt));
         own = subst (λ (l : List (ℕ × List E)). HasOwn l (history v.turns)) (sym (owned_drawer d v))
@@ -105,7 +105,7 @@ module _ {O E : Type 0} (step : O → ℕ → E → O → Type 0) (origin : O) w
           let f = k.known id me.0 at in
           let is : old ≡ k.drawn = sym (eqb-true (get_or s.words 1 0) old e) ∙ ap (λ (l : List ℕ). get_or l 1 0) k.words in
           let none_yet : turns_of old k.log ≡ [] = k.undrawn old (omega arith) in
-          let fits : Fits origin k.log old me.0 = subst (λ (d : ℕ). Fits origin k.log d me.0) (sym is) f in (
+          let fits : Knows origin k.log old me.0 = subst (λ (d : ℕ). Knows origin k.log d me.0) (sym is) f in (
             drawer old me.0,
             keeps,
             tt,
@@ -113,8 +113,8 @@ module _ {O E : Type 0} (step : O → ℕ → E → O → Type 0) (origin : O) w
                 (ap (λ (l : List ℕ). set l 1 (old + 1)) k.words)
                 k.legal
                 k.slot
-                (λ j u ne a. more_drawn k.log old u (subst (λ (d : ℕ). Fits origin k.log d u) (sym is) (k.known j u a)))
-                (fits_drawer k.log old me.0 none_yet fits)
+                (λ j u ne a. more_drawn k.log old u (subst (λ (d : ℕ). Knows origin k.log d u) (sym is) (k.known j u a)))
+                (knows_drawer k.log old me.0 none_yet fits)
                 (λ n. let same : once (ltb n k.drawn) ≡ once (ltb n old) = ap (λ (d : ℕ). once (ltb n d)) (sym is) in omega (arith, times_drawer n old me.0, one_more n old, same))
                 (recorded is)
                 (λ n l. k.undrawn n (omega arith))

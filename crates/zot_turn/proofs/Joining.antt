@@ -13,12 +13,12 @@ use Rattle.zot_turn.specs.declared.known.Known.{Known}
 use Rattle.zot_history.specs.History.{entries_of}
 use Rattle.zot_turn.specs.Turns.{history, turns_of}
 use Rattle.zot_turn.specs.Seats.{numbers, HasOwn, longer, shorter}
-use Rattle.zot_turn.specs.Steps.{times, once, blank, owned, Fits, Recorded, Kept, joined, spent_known}
+use Rattle.zot_turn.specs.Steps.{times, once, blank, owned, Knows, Recorded, Kept, joined, spent_known}
 use Rattle.zot_history.proofs.Prefixes.{prefix_refl, prefix_nil}
 use Rattle.zot_turn.proofs.Lists.{each_map, each_zip, each_append, each_left, each_right}
 use Rattle.zot_turn.proofs.Turns.{same_entries, squeezed, Longer, longer_is}
 use Rattle.zot_turn.proofs.Totals.{times-append, numbers-append, total_set, place_within}
-use Rattle.zot_turn.proofs.Changes.{once_false, never, times_owned, one_view, recorded_set, fits_set, reviewed}
+use Rattle.zot_turn.proofs.Changes.{once_false, never, times_owned, one_view, recorded_set, knows_set, reviewed}
 
 module _ {A : Type 0} where
   -- two lists in two parts each, in the order of a join
@@ -47,14 +47,14 @@ module _ {O E : Type 0} (step : O → ℕ → E → O → Type 0) (origin : O) w
   grown_own log long v p q whole own = each_zip (λ m. turns_of m.0 log ≡ turns_of m.0 v.turns) (λ m. entries_of m.0 (history v.turns) ≡ m.1) (λ m. entries_of m.0 (history long) ≡ m.1) (owned v)
       (λ m h had. same_entries m.0 long v.turns (sym (squeezed m.0 v.turns long log p q h) ∙ h) ∙ had) whole own
 
-  fits_joined : (log : List (ℕ × List E)) (d : ℕ) (v w : Known O E) → v.holding ≡ false → Fits origin log d v → Fits origin log d w → Fits origin log d (joined v w)
-  fits_joined log d v w idle f h =
+  knows_joined : (log : List (ℕ × List E)) (d : ℕ) (v w : Known O E) → v.holding ≡ false → Knows origin log d v → Knows origin log d w → Knows origin log d (joined v w)
+  knows_joined log d v w idle f h =
       let l : Longer v.turns w.turns log (longer v.turns w.turns) (shorter v.turns w.turns) = longer_is v.turns w.turns log f.seen h.seen in
       let long = longer v.turns w.turns in
       record {
         opening = f.opening;
         seen = l.whole;
-        told = l.begins;
+        beside = l.begins;
         whole = subst (AllByRecursion (λ (m : ℕ × List E). turns_of m.0 log ≡ turns_of m.0 long)) (sym (owned_joined v w))
             (each_joined (λ m. turns_of m.0 log ≡ turns_of m.0 long) v.mine w.mine (blank v.ready) (blank w.ready) (grown_whole log long v l.first l.whole f.whole) (grown_whole log long w l.second l.whole h.whole));
         own = subst (λ (ms : List (ℕ × List E)). HasOwn ms (history long)) (sym (owned_joined v w))
@@ -65,11 +65,11 @@ module _ {O E : Type 0} (step : O → ℕ → E → O → Type 0) (origin : O) w
         acts = λ e. never (sym idle ∙ e);
       }
 
-  fits_spent : (log : List (ℕ × List E)) (d : ℕ) → Fits origin log d spent_known
-  fits_spent log d = record {
+  knows_spent : (log : List (ℕ × List E)) (d : ℕ) → Knows origin log d spent_known
+  knows_spent log d = record {
     opening = λ o e. cc e;
     seen = prefix_nil log;
-    told = prefix_refl [];
+    beside = prefix_refl [];
     whole = tt;
     own = tt;
     given = tt;
@@ -86,8 +86,8 @@ module _ {O E : Type 0} (step : O → ℕ → E → O → Type 0) (origin : O) w
       was : get_elem? s.views other ≡ some w
       was = sym (set_else s.views id other (joined v w) apart) ∙ there
 
-      fits_both : (j : ℕ) (u : Known O E) → get_elem? (set s.views id (joined v w)) j ≡ some u → Fits origin k.log k.drawn u
-      fits_both j u e = fits_set step origin k.log k.drawn s.views id (joined v w) (λ i x ne a. k.known i x a) (fits_joined k.log k.drawn v w idle (k.known id v at) (k.known other w was)) j u e
+      knows_both : (j : ℕ) (u : Known O E) → get_elem? (set s.views id (joined v w)) j ≡ some u → Knows origin k.log k.drawn u
+      knows_both j u e = knows_set step origin k.log k.drawn s.views id (joined v w) (λ i x ne a. k.known i x a) (knows_joined k.log k.drawn v w idle (k.known id v at) (k.known other w was)) j u e
 
       -- a record of the seat that was taken in is one of the seat that took it in
       recorded_both : (n : ℕ) → Recorded n (set s.views id (joined v w)) → Recorded n (set (set s.views id (joined v w)) other spent_known)
@@ -114,7 +114,7 @@ module _ {O E : Type 0} (step : O → ℕ → E → O → Type 0) (origin : O) w
 
     pub joins_seats : Joins (Kept step origin) id v other w (joined v w) spent_known
     joins_seats s k at apart there = reviewed step origin s k (set (set s.views id (joined v w)) other spent_known)
-        (fits_set step origin k.log k.drawn (set s.views id (joined v w)) other spent_known (λ j u ne e. fits_both s k at apart there j u e) (fits_spent k.log k.drawn))
+        (knows_set step origin k.log k.drawn (set s.views id (joined v w)) other spent_known (λ j u ne e. knows_both s k at apart there j u e) (knows_spent k.log k.drawn))
         (λ n.
         let f : Known O E → ℕ = λ u. times n (numbers (owned u)) in
         omega (arith, total_set f (set s.views id (joined v w)) other w spent_known there, total_set f s.views id v (joined v w) at, times_joined n v w))

@@ -8,7 +8,7 @@ use Rattle.zot_turn.specs.declared.known.Known.{Known}
 use Rattle.zot_history.specs.History.{Replays, entries_of}
 use Rattle.zot_turn.specs.Turns.{history}
 use Rattle.zot_turn.specs.Seats.{numbers}
-use Rattle.zot_turn.specs.Steps.{times, once, blank, owned, Fits, Kept, Looks, Settles}
+use Rattle.zot_turn.specs.Steps.{times, once, blank, owned, Knows, Kept, Looks, Settles}
 use Rattle.zot_history.proofs.Prefixes.{prefix_nil}
 use Rattle.zot_turn.proofs.Lists.{each_left}
 use Rattle.zot_history.proofs.Histories.{replays_split}
@@ -21,7 +21,7 @@ half_of n false word w = omega arith
 
 module _ {O E : Type 0} (step : O → ℕ → E → O → Type 0) (origin : O) where
   -- a look changes the view alone, in what no other part of the rule reads
-  looked : (s : State (Option O) (Known O E)) (k : Kept step origin s) (id : ℕ) (v w : Known O E) → get_elem? s.views id ≡ some v → Fits origin k.log k.drawn w
+  looked : (s : State (Option O) (Known O E)) (k : Kept step origin s) (id : ℕ) (v w : Known O E) → get_elem? s.views id ≡ some v → Knows origin k.log k.drawn w
       → owned w ≡ owned v → w.mine ≡ v.mine → w.gave ++ w.ready ≡ v.gave ++ v.ready → w.holding ≡ v.holding
       → Kept step origin record { words = set s.words 0 (get_or s.words 0 0); homes = s.homes; views = set s.views id w }
   looked s k id v w at fits owns mine gave holding = changed step origin s k id v w at k.log k.value k.held k.drawn (set s.words 0 (get_or s.words 0 0)) s.homes
@@ -42,19 +42,19 @@ module _ {O E : Type 0} (step : O → ℕ → E → O → Type 0) (origin : O) w
       let word : get_or s.words 0 0 ≡ 2 * length k.log + once k.held = ap (λ (l : List ℕ). get_or l 0 0) k.words in
       let count : get_or s.words 0 0 / 2 ≡ length k.log = half_of (length k.log) k.held (get_or s.words 0 0) word in
       let w : Known O E = record me.0 { shown = max me.0.shown (get_or s.words 0 0 / 2) } in
-      (w, keeps, tt, looked s k id me.0 w at (record { opening = f.opening; seen = f.seen; told = f.told; whole = f.whole; own = f.own; given = f.given; shown = omega (arith, f.shown, count); holds = f.holds; acts = f.acts }) refl refl refl refl, refl)
+      (w, keeps, tt, looked s k id me.0 w at (record { opening = f.opening; seen = f.seen; beside = f.beside; whole = f.whole; own = f.own; given = f.given; shown = omega (arith, f.shown, count); holds = f.holds; acts = f.acts }) refl refl refl refl, refl)
 
   pub settles_on : (id slots : ℕ) (me : Me (Option O) (Known O E)) → Allows (Kept step origin) slots id me 0 (λ n. n) (Settles step (Rattle.atomic_table.specs.Table.step slots 0 0 0 none) me)
   settles_on id slots me s k long at fits =
       let f = k.known id me.0 at in
-      let w : Known O E = record me.0 { told = [] } in (
+      let w : Known O E = record me.0 { beside = [] } in (
         w,
         keeps,
         tt,
-        looked s k id me.0 w at (record { opening = f.opening; seen = f.seen; told = prefix_nil me.0.turns; whole = f.whole; own = f.own; given = f.given; shown = f.shown; holds = f.holds; acts = f.acts }) refl refl refl refl,
+        looked s k id me.0 w at (record { opening = f.opening; seen = f.seen; beside = prefix_nil me.0.turns; whole = f.whole; own = f.own; given = f.given; shown = f.shown; holds = f.holds; acts = f.acts }) refl refl refl refl,
         record {
           view = refl;
-          begins = f.told;
+          begins = f.beside;
           own = each_left (λ m. entries_of m.0 (history me.0.turns) ≡ m.1) me.0.mine (blank me.0.ready) f.own;
           apart = λ n. omega (arith, its_once step origin s k n id me.0 at, times_owned n me.0);
           legal = λ o e.

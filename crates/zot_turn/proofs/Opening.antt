@@ -6,21 +6,21 @@ use native.Mathlib.Decide.{ℕ_discrete}
 use lib.ListN.{get_elem?}
 use Rattle.atomic_table.specs.Table.{opening}
 use Rattle.zot_turn.specs.declared.known.Known.{Known}
-use Rattle.zot_turn.specs.Steps.{times, once, Fits, Kept, first_known}
+use Rattle.zot_turn.specs.Steps.{times, once, Knows, Kept, first_known}
 use Rattle.zot_history.proofs.Prefixes.{prefix_refl}
 use Rattle.zot_turn.proofs.Totals.{times_one, times_other}
 use Rattle.zot_turn.proofs.Changes.{never}
 
--- a list that was empty, with one value put behind it
+-- a list that was empty, to which one value was added
 pub pushed : {O : Type 0} (was now : List (Option O)) (put value : O) → was ≡ [] → now ≡ was ++ Some put ∷ [] → value ≡ put → now ≡ Some value ∷ []
 pushed was now put value empty more same = more ∙ (λ i. empty i ++ Some (sym same i) ∷ [])
 
 module _ {O E : Type 0} (step : O → ℕ → E → O → Type 0) (origin : O) where
-  fits_first : Fits origin [] 1 (first_known {E = E} origin)
-  fits_first = record {
+  knows_first : Knows origin [] 1 (first_known {E = E} origin)
+  knows_first = record {
     opening = λ o e. cc e;
     seen = prefix_refl [];
-    told = prefix_refl [];
+    beside = prefix_refl [];
     whole = (refl, tt);
     own = (refl, tt);
     given = tt;
@@ -51,6 +51,6 @@ module _ {O E : Type 0} (step : O → ℕ → E → O → Type 0) (origin : O) w
     holder = refl;
   }
     where
-      one : (id : ℕ) (v : Known O E) → get_elem? (first_known {E = E} origin ∷ []) id ≡ some v → Fits origin [] 1 v
-      one zero v e = subst (Fits origin [] 1) (some-injective _ _ e) fits_first
+      one : (id : ℕ) (v : Known O E) → get_elem? (first_known {E = E} origin ∷ []) id ≡ some v → Knows origin [] 1 v
+      one zero v e = subst (Knows origin [] 1) (some-injective _ _ e) knows_first
       one (suc id) v e = absurd (some-ne-none v (sym e))

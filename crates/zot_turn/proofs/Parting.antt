@@ -9,11 +9,11 @@ use Rattle.zot_turn.specs.declared.known.Known.{Known}
 use Rattle.zot_history.specs.History.{entries_of}
 use Rattle.zot_turn.specs.Turns.{history, turns_of}
 use Rattle.zot_turn.specs.Seats.{numbers}
-use Rattle.zot_turn.specs.Steps.{times, once, blank, owned, Fits, Kept, giver, taker}
+use Rattle.zot_turn.specs.Steps.{times, once, blank, owned, Knows, Kept, giver, taker}
 use Rattle.zot_history.proofs.Prefixes.{prefix_nil}
 use Rattle.zot_turn.proofs.Lists.{each_append, each_left, each_right}
 use Rattle.zot_turn.proofs.Totals.{times_first, numbers_blank, total_set, total_push}
-use Rattle.zot_turn.proofs.Changes.{never, times_owned, recorded_set, fits_set, reviewed, its_drawn}
+use Rattle.zot_turn.proofs.Changes.{never, times_owned, recorded_set, knows_set, reviewed, its_drawn}
 
 -- each of these is drawn, where what stands among them is
 each_drawn : (d : ℕ) (ns : List ℕ) → ((n : ℕ) → 0 < times n ns → n < d) → AllByRecursion (λ n. n < d) ns
@@ -22,11 +22,11 @@ each_drawn d (n ∷ ns) h = (h n (times_first n n ns refl), each_drawn d ns (λ 
 
 module _ {O E : Type 0} (step : O → ℕ → E → O → Type 0) (origin : O) where
   module _ (s : State (Option O) (Known O E)) (k : Kept step origin s) (id : ℕ) (v : Known O E) (at : get_elem? s.views id ≡ some v) where
-    fits_giver : Fits origin k.log k.drawn (giver v)
-    fits_giver = let f = k.known id v at in record {
+    knows_giver : Knows origin k.log k.drawn (giver v)
+    knows_giver = let f = k.known id v at in record {
       opening = f.opening;
       seen = f.seen;
-      told = f.told;
+      beside = f.beside;
       whole = each_append (λ m. turns_of m.0 k.log ≡ turns_of m.0 v.turns) v.mine [] (each_left (λ m. turns_of m.0 k.log ≡ turns_of m.0 v.turns) v.mine (blank v.ready) f.whole) tt;
       own = each_append (λ m. entries_of m.0 (history v.turns) ≡ m.1) v.mine [] (each_left (λ m. entries_of m.0 (history v.turns) ≡ m.1) v.mine (blank v.ready) f.own) tt;
       given = each_append (λ n. n < k.drawn) v.gave v.ready f.given (each_drawn k.drawn v.ready (λ n l. its_drawn step origin s k n id v at (omega (arith, times_owned n v, l))));
@@ -35,11 +35,11 @@ module _ {O E : Type 0} (step : O → ℕ → E → O → Type 0) (origin : O) w
       acts = f.acts;
     }
 
-    fits_taker : Fits origin k.log k.drawn (taker v)
-    fits_taker = let f = k.known id v at in record {
+    knows_taker : Knows origin k.log k.drawn (taker v)
+    knows_taker = let f = k.known id v at in record {
       opening = f.opening;
       seen = f.seen;
-      told = prefix_nil v.turns;
+      beside = prefix_nil v.turns;
       whole = each_append (λ m. turns_of m.0 k.log ≡ turns_of m.0 v.turns) (blank v.ready) [] (each_right (λ m. turns_of m.0 k.log ≡ turns_of m.0 v.turns) v.mine (blank v.ready) f.whole) tt;
       own = each_append (λ m. entries_of m.0 (history v.turns) ≡ m.1) (blank v.ready) [] (each_right (λ m. entries_of m.0 (history v.turns) ≡ m.1) v.mine (blank v.ready) f.own) tt;
       given = tt;
@@ -57,8 +57,8 @@ module _ {O E : Type 0} (step : O → ℕ → E → O → Type 0) (origin : O) w
   pub parts_seat : (id : ℕ) (v : Known O E) → Splits (Kept step origin) id v (giver v) (taker v)
   parts_seat id v s k at = reviewed step origin s k (set s.views id (giver v) ++ taker v ∷ [])
       (λ j u e. ⊎_elim
-      (λ was. fits_set step origin k.log k.drawn s.views id (giver v) (λ i w ne a. k.known i w a) (fits_giver s k id v at) j u was)
-      (λ (is : taker v ≡ u). subst (Fits origin k.log k.drawn) is (fits_taker s k id v at))
+      (λ was. knows_set step origin k.log k.drawn s.views id (giver v) (λ i w ne a. k.known i w a) (knows_giver s k id v at) j u was)
+      (λ (is : taker v ≡ u). subst (Knows origin k.log k.drawn) is (knows_taker s k id v at))
       (at_snoc (set s.views id (giver v)) (taker v) u j e))
       (λ n.
       let f : Known O E → ℕ = λ u. times n (numbers (owned u)) in

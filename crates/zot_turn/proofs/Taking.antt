@@ -9,10 +9,10 @@ use Rattle.zot_turn.specs.declared.known.Known.{Known}
 use Rattle.zot_history.specs.History.{Replays, entries_of}
 use Rattle.zot_turn.specs.Turns.{history, turns_of}
 use Rattle.zot_turn.specs.Seats.{HasOwn}
-use Rattle.zot_turn.specs.Steps.{once, blank, owned, Fits, Kept, HasNumber, Takes, TakesOrNot}
+use Rattle.zot_turn.specs.Steps.{once, blank, owned, Knows, Kept, HasNumber, TakesTurn, TakesTurnOrNot}
 use Rattle.zot_history.proofs.Prefixes.{prefix_more}
 use Rattle.zot_turn.proofs.Lists.{each_all, each_map, each_zip, each_left}
-use Rattle.zot_turn.proofs.Turns.{same_entries, none_behind}
+use Rattle.zot_turn.proofs.Turns.{same_entries, none_after}
 use Rattle.zot_turn.proofs.Changes.{once_false, times_owned, recorded_set, changed, unchanged, its_once, none_holds, hit, missed}
 
 -- the word is even just where no turn is held
@@ -30,11 +30,11 @@ module _ {O E : Type 0} (step : O → ℕ → E → O → Type 0) (origin : O) w
   all_entries log v more is mine whole own = each_zip (λ m. turns_of m.0 log ≡ turns_of m.0 v.turns) (λ m. entries_of m.0 (history v.turns) ≡ m.1) (λ m. entries_of m.0 (history (v.turns ++ more)) ≡ m.1) mine
       (λ m a b. same_entries m.0 (v.turns ++ more) v.turns (ap (turns_of m.0) is ∙ a) ∙ b) whole own
 
-  fits_holder : (log : List (ℕ × List E)) (drawn : ℕ) (v : Known O E) (f : Fits origin log drawn v) → HasNumber v.mine → Fits origin log drawn (holder v f.seen.0)
-  fits_holder log drawn v f acts = record {
+  knows_holder : (log : List (ℕ × List E)) (drawn : ℕ) (v : Known O E) (f : Knows origin log drawn v) → HasNumber v.mine → Knows origin log drawn (holder v f.seen.0)
+  knows_holder log drawn v f acts = record {
     opening = f.opening;
     seen = ([], append-nil (v.turns ++ f.seen.0) ∙ f.seen.1);
-    told = prefix_more v.told v.turns f.seen.0 f.told;
+    beside = prefix_more v.beside v.turns f.seen.0 f.beside;
     whole = each_all (λ m. turns_of m.0 log ≡ turns_of m.0 (v.turns ++ f.seen.0)) (owned v) (λ m. sym (ap (turns_of m.0) f.seen.1));
     own = all_entries log v f.seen.0 f.seen.1 (owned v) f.whole f.own;
     given = f.given;
@@ -49,7 +49,7 @@ module _ {O E : Type 0} (step : O → ℕ → E → O → Type 0) (origin : O) w
       abbrev Goal : Bool → Type 0
       Goal b = (w : Known O E) × (a : Act (Option O)) × Rattle.atomic_table.specs.Table.Valid s.homes me.1 a
           × Kept step origin (Rattle.atomic_table.specs.Table.stepped s 0 (either b (old + 1) (get_or s.words 0 0)) id me.1 w a)
-          × MatchBool b (Takes step (get_or s.words 0 0) me (w, Rattle.atomic_table.specs.Table.carried_after me.1 a)) ((w, Rattle.atomic_table.specs.Table.carried_after me.1 a) ≡ me)
+          × MatchBool b (TakesTurn step (get_or s.words 0 0) me (w, Rattle.atomic_table.specs.Table.carried_after me.1 a)) ((w, Rattle.atomic_table.specs.Table.carried_after me.1 a) ≡ me)
 
       taking : (b : Bool) → (get_or s.words 0 0 == old) ≡ b → Goal b
       taking false e = (me.0, keeps, tt, unchanged step origin s k 0 id me.0 at, refl)
@@ -72,7 +72,7 @@ module _ {O E : Type 0} (step : O → ℕ → E → O → Type 0) (origin : O) w
                 k.legal
                 (ap (λ h. set h 0 none) home)
                 (λ j u ne a. k.known j u a)
-                (fits_holder k.log k.drawn me.0 f acts)
+                (knows_holder k.log k.drawn me.0 f acts)
                 (λ n. refl)
                 (λ n l ne. recorded_set n s.views id me.0 w at (λ m. omega arith) (λ m. omega arith) (k.recorded n l ne))
                 k.undrawn
@@ -84,7 +84,7 @@ module _ {O E : Type 0} (step : O → ℕ → E → O → Type 0) (origin : O) w
               view = refl;
               slot = refl;
               stood = λ o e. subst (λ (p : O). Replays step p (history (me.0.turns ++ more)) k.value) (sym (f.opening o e)) (subst (λ (l : List (ℕ × List E)). Replays step origin (history l) k.value) (sym f.seen.1) k.legal);
-              elsewhere = each_map (λ m. turns_of m.0 k.log ≡ turns_of m.0 me.0.turns) (λ m. turns_of m.0 more ≡ []) me.0.mine (λ m h. none_behind m.0 me.0.turns more (ap (turns_of m.0) f.seen.1 ∙ h)) (each_left (λ m. turns_of m.0 k.log ≡ turns_of m.0 me.0.turns) me.0.mine (blank me.0.ready) f.whole);
+              elsewhere = each_map (λ m. turns_of m.0 k.log ≡ turns_of m.0 me.0.turns) (λ m. turns_of m.0 more ≡ []) me.0.mine (λ m h. none_after m.0 me.0.turns more (ap (turns_of m.0) f.seen.1 ∙ h)) (each_left (λ m. turns_of m.0 k.log ≡ turns_of m.0 me.0.turns) me.0.mine (blank me.0.ready) f.whole);
               own = all_entries k.log me.0 more f.seen.1 me.0.mine (each_left (λ m. turns_of m.0 k.log ≡ turns_of m.0 me.0.turns) me.0.mine (blank me.0.ready) f.whole) (each_left (λ m. entries_of m.0 (history me.0.turns) ≡ m.1) me.0.mine (blank me.0.ready) f.own);
               apart = λ n. omega (arith, its_once step origin s k n id me.0 at, times_owned n me.0);
               shown = omega (arith, f.shown, long);
@@ -92,12 +92,12 @@ module _ {O E : Type 0} (step : O → ℕ → E → O → Type 0) (origin : O) w
             },
           )
 
-    pub takes_turn : Allows (Kept step origin) slots id me 0 (λ n. either (n == old) (old + 1) n) (TakesOrNot step (Rattle.atomic_table.specs.Table.step slots 0 old (old + 1) none) me)
+    pub takes_turn : Allows (Kept step origin) slots id me 0 (λ n. either (n == old) (old + 1) n) (TakesTurnOrNot step (Rattle.atomic_table.specs.Table.step slots 0 old (old + 1) none) me)
     takes_turn s k long at fits = taking s k at (get_or s.words 0 0 == old) refl
 
-    -- what the step tells where it found the word expected, and where it did not
-    pub took : (found : ℕ) (now : Me (Option O) (Known O E)) → found ≡ old → TakesOrNot step (Rattle.atomic_table.specs.Table.step slots 0 old (old + 1) none) me found now → Takes step old me now
-    took found now e h = subst (λ (n : ℕ). Takes step n me now) e (hit (Takes step found me now) (now ≡ me) found old e h)
+    -- what the step says where it found the word expected, and where it did not
+    pub took : (found : ℕ) (now : Me (Option O) (Known O E)) → found ≡ old → TakesTurnOrNot step (Rattle.atomic_table.specs.Table.step slots 0 old (old + 1) none) me found now → TakesTurn step old me now
+    took found now e h = subst (λ (n : ℕ). TakesTurn step n me now) e (hit (TakesTurn step found me now) (now ≡ me) found old e h)
 
-    pub not_taken : (found : ℕ) (now : Me (Option O) (Known O E)) → found ≢ old → TakesOrNot step (Rattle.atomic_table.specs.Table.step slots 0 old (old + 1) none) me found now → now ≡ me
-    not_taken found now ne h = missed (Takes step found me now) (now ≡ me) found old ne h
+    pub not_taken : (found : ℕ) (now : Me (Option O) (Known O E)) → found ≢ old → TakesTurnOrNot step (Rattle.atomic_table.specs.Table.step slots 0 old (old + 1) none) me found now → now ≡ me
+    not_taken found now ne h = missed (TakesTurn step found me now) (now ≡ me) found old ne h

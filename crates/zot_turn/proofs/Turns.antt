@@ -69,9 +69,9 @@ module _ {E : Type 0} where
       let none : turns_of n q.0 ≡ [] = no_more (turns_of n q.0) (omega (arith, ap length a, ap length b, ap length h, length-append (turns_of n xs) (turns_of n p.0), length-append (turns_of n ys) (turns_of n q.0))) in
       b ∙ ap (λ (l : List (ℕ × List E)). turns_of n ys ++ l) none ∙ append-nil (turns_of n ys)
 
-  -- the turns behind a beginning that has all of the number's have none of it
-  pub none_behind : (n : ℕ) (xs more : List (ℕ × List E)) → turns_of n (xs ++ more) ≡ turns_of n xs → turns_of n more ≡ []
-  none_behind n xs more h = behind_itself (turns_of n xs) (turns_of n more) (sym (turns_of-append n xs more) ∙ h)
+  -- a beginning that has all turns of a number: the turns after it have none
+  pub none_after : (n : ℕ) (xs more : List (ℕ × List E)) → turns_of n (xs ++ more) ≡ turns_of n xs → turns_of n more ≡ []
+  none_after n xs more h = behind_itself (turns_of n xs) (turns_of n more) (sym (turns_of-append n xs more) ∙ h)
 
   -- the longer and the shorter of two beginnings of one history
   pub record Longer (xs ys zs : List (ℕ × List E)) (long short : List (ℕ × List E)) : Type 0 where

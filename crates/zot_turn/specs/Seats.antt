@@ -7,7 +7,7 @@ use Rattle.atomic_table.specs.Seated.{TableId}
 use Rattle.zot_history.specs.History.{Replays, signed, entries_of}
 use Rattle.zot_turn.specs.Turns.{history, turns_of}
 
--- which shared value it is, and the value that it was opened with
+-- which shared value it is, and its opening value
 pub record Home (O : Type 0) : Type 0 where
   pub table : TableId
   pub opening : Option O
@@ -20,7 +20,7 @@ pub record Standing (O E : Type 0) : Type 0 where
   pub gave : List ℕ
   pub shown : ℕ
 
--- the numbers of a list of numbers with their entries
+-- the numbers alone, of numbers with their entries
 abbrev pub numbers : {E : Type 0} → List (ℕ × List E) → List ℕ
 numbers mine = map (λ m. m.0) mine
 
@@ -29,7 +29,7 @@ abbrev pub acting : {E : Type 0} → List (ℕ × List E) → ℕ
 acting [] = 0
 acting (m ∷ ms) = m.0
 
--- the entries go behind those of the first number
+-- the first number gets these entries, after those that it has
 abbrev pub with_entries : {E : Type 0} → List E → List (ℕ × List E) → List (ℕ × List E)
 with_entries es [] = []
 with_entries es (m ∷ ms) = (m.0, m.1 ++ es) ∷ ms
@@ -42,7 +42,7 @@ seen s = history s.turns
 abbrev pub HasOwn : {E : Type 0} → List (ℕ × List E) → List (ℕ × E) → Type 0
 HasOwn mine entries = AllByRecursion (λ m. entries_of m.0 entries ≡ m.1) mine
 
--- none of these turns is one of these numbers'
+-- none of the turns is by one of these numbers
 abbrev pub Elsewhere : {E : Type 0} → List (ℕ × List E) → List (ℕ × List E) → Type 0
 Elsewhere mine turns = AllByRecursion (λ m. turns_of m.0 turns ≡ []) mine
 
@@ -50,11 +50,11 @@ Elsewhere mine turns = AllByRecursion (λ m. turns_of m.0 turns ≡ []) mine
 abbrev pub Stands : {O E : Type 0} → (O → ℕ → E → O → Type 0) → Home O → List (ℕ × E) → O → Type 0
 Stands step home entries value = IsSomeAnd home.opening (λ o. Replays step o entries value)
 
--- it holds of every value that stands at the end of a legal history which begins with what the seat has seen and in which its numbers have just its entries
+-- `needs` holds of every value that the seat may find: one that a legal history leads to, which begins with what the seat has seen, and in which its numbers have just its entries
 abbrev pub IsOwed : {O E : Type 0} → (O → ℕ → E → O → Type 0) → Standing O E → (O → Type 0) → Type 0
 IsOwed {O} {E} step s needs = (entries : List (ℕ × E)) (value : O) → IsPrefix (seen s) entries → HasOwn s.mine entries → Stands step s.home entries value → needs value
 
--- a turn of the seat that made these entries: others' turns went before it, it ran once, on the value that stood there, and left the value that the entries lead to
+-- the seat took a turn: others' turns came first, then its job ran once, on the value that stood there, and made these entries, which lead to the value that it left
 pub record Turned {O E : Type 0} (step : O → ℕ → E → O → Type 0) (es : List E) (ran : O → O → Type 0) (old new : Standing O E) : Type 0 where
   pub others : List (ℕ × List E)
   pub before : O
@@ -81,7 +81,7 @@ shorter xs ys = cond (nat_lt (length xs) (length ys)) xs ys
 abbrev pub HasAll : {O E : Type 0} → Standing O E → Type 0
 HasAll s = Contains (numbers s.mine) 0 × ((n : ℕ) → Contains s.gave n → Contains (numbers s.mine) n)
 
--- a seat gave a number that it neither had nor gave before to a new seat, which has seen as much
+-- a seat gave a new seat a number, which it neither had nor gave before; the new seat has seen as much
 pub record Parted {O E : Type 0} (old new given : Standing O E) : Type 0 where
   pub number : ℕ
   pub kept : new ≡ record old { gave = old.gave ++ number ∷ [] }
@@ -90,7 +90,7 @@ pub record Parted {O E : Type 0} (old new given : Standing O E) : Type 0 where
   pub ungiven : ¬ Contains old.gave number
   pub idle : turns_of number old.turns ≡ []
 
--- a seat took in another: what the two had seen begins one legal history, of which the longer beginning stays, with the numbers, the given numbers and the entries of both
+-- a seat took in another: what the two had seen begins one legal history, and the longer beginning stays, with the numbers, the given numbers and the entries of both
 pub record Joined {O E : Type 0} (step : O → ℕ → E → O → Type 0) (old other new : Standing O E) : Type 0 where
   pub known : new ≡ record old { turns = longer old.turns other.turns; mine = old.mine ++ other.mine; gave = old.gave ++ other.gave; shown = max old.shown other.shown }
   pub first : IsPrefix old.turns new.turns
@@ -106,7 +106,7 @@ pub record IsLater {O E : Type 0} (old new : Standing O E) : Type 0 where
   pub gave : new.gave ≡ old.gave
   pub turns : IsPrefix old.turns new.turns
 
--- the same seat later, whose acting number has these entries more, and whose other numbers have none
+-- the same seat later: its acting number has these entries more, and its other numbers have none more
 pub record HasMade {O E : Type 0} (entries : List E) (old new : Standing O E) : Type 0 where
   pub later : IsLater old new
   pub mine : new.mine ≡ with_entries entries old.mine

@@ -10,13 +10,13 @@ use Rattle.zot_turn.specs.Seats.{Standing}
 abbrev pub standing_of : {O E : Type 0} → TableId → Known O E → Standing O E
 standing_of table v = record { home = record { table = table; opening = v.opening }; turns = v.turns; mine = v.mine; gave = v.gave; shown = v.shown }
 
--- between two calls: the seat acts in this number, has seen so many turns, and has no turn, no drawn number and no join before it
+-- between two calls: the seat acts in this number, has seen so many turns, and has no turn, no drawn number and no join at hand
 pub record IsAtRest {O E : Type 0} (number turns : ℕ) (me : Me (Option O) (Known O E)) : Type 0 where
   pub entries : List E
   pub others : List (ℕ × List E)
   pub mine : me.0.mine ≡ (number, entries) ∷ others
   pub count : turns ≡ length me.0.turns
-  pub told : me.0.told ≡ []
+  pub beside : me.0.beside ≡ []
   pub ready : me.0.ready ≡ []
   pub holding : me.0.holding ≡ false
   pub slots : me.1 ≡ []

@@ -1,4 +1,6 @@
 //! One value that threads share, in turns. What a thread then knows is a beginning of one legal history of that value.
+//!
+//! A thread takes a turn with its own seat: `shared.turn(&rt, &mut seat, &mut job)` runs the job once on the value.
 #![tactic(auto)]
 
 mod known;

@@ -1,4 +1,4 @@
-// What may be shared, and what may be done to it in a turn.
+//! What may be shared, and what may be done to it in a turn.
 ghost use Rattle.std.specs.Prelude.{ℕ, List};
 ghost use Rattle.zot_history.specs.History.{Replays, signed};
 

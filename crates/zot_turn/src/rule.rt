@@ -1,4 +1,4 @@
-// The rule of the table, and what each kind of step tells. These types are for the proofs alone.
+//! The rule of the table, and what each kind of step says. These types are for the proofs alone.
 use crate::known::Known;
 use crate::object::Object;
 use atomic_table::{Join, Play, Split, TableRule};
@@ -31,9 +31,9 @@ impl<E> Made<E> for Brand {
 pub(crate) struct Take;
 
 impl<O: Object> Play<Option<O>, Known<O, O::Entry>> for Take {
-    ghost use Rattle.zot_turn.specs.Steps.{TakesOrNot};
+    ghost use Rattle.zot_turn.specs.Steps.{TakesTurnOrNot};
 
-    ghost then = { TakesOrNot O.step };
+    ghost then = { TakesTurnOrNot O.step };
 }
 
 pub(crate) struct Give<M> {

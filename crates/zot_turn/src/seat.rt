@@ -1,4 +1,4 @@
-// A seat: what one thread takes its turns with.
+//! A seat: what one thread takes its turns with.
 ghost use Rattle.std.specs.Prelude.{◌≡◌};
 ghost use Rattle.zot_turn.specs.Seats.{acting};
 

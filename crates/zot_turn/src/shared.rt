@@ -1,4 +1,4 @@
-// The shared value.
+//! The shared value.
 ghost use Rattle.std.specs.Prelude.{◌≡◌, ◌<◌, ◌≤◌, ℕ, [], ◌∷◌, ◌++◌, length, max, IsOk, IfOk, Some};
 ghost use Rattle.std.specs.List.{Contains, AllByRecursion};
 ghost use mathlib.Core.List.{IsPrefix};
@@ -15,7 +15,7 @@ use std::marker::{Brand, Model};
 use std::snapshot::Snapshot;
 use std::sync::Wait;
 
-/// There was no memory.
+/// Memory ran out.
 pub type NoMemory = AllocError;
 
 /// A value that threads share. Each takes turns at it with a seat of its own.
@@ -36,7 +36,7 @@ impl<O: Object> Model for Shared<O> {
 }
 
 impl<O: Object + Drop> Shared<O> {
-    /// Shares a value, and gives its first seat, whose number is 0. Where there is no memory for the table it answers `NoMemory`, and the value is dropped.
+    /// Shares a value, and gives its first seat, whose number is 0. Where memory runs out it answers `NoMemory`, and the value is dropped.
     pub fn new(alloc: Global, value: O) -> Result<(Shared<O>, Seat<O>), NoMemory>
         ensures opening { IfOk result (λ r. r.0.opening ≡ Some value) }
         ensures seat { IfOk result (λ r. r.1 ≡ record { home = r.0; turns = []; mine = (0, []) ∷ []; gave = []; shown = 0 }) }
@@ -73,7 +73,7 @@ impl<O: Object> Shared<O> {
         seat.turns = found / 2 + 1;
     }
 
-    /// Gives a new seat with a number of its own, which has seen as much. It takes no memory, so it answers `Ok`. Where others split too it tries again, and where no number is left it waits for ever.
+    /// Gives a new seat with a number of its own, which has seen as much. It takes no memory, so it always answers `Ok`. Where no number is left it waits for ever.
     pub fn split(&self, rt: &impl Wait, seat: &mut Seat<O>) -> Result<Seat<O>, NoMemory>
         requires { seat.old.home ≡ self.now }
         ensures given { IsOk result }
@@ -89,7 +89,7 @@ impl<O: Object> Shared<O> {
         })
     }
 
-    /// Takes in another seat, with its numbers and what they made. It takes no memory.
+    /// Takes in another seat, with its numbers and their entries. It takes no memory.
     pub fn join(&self, seat: &mut Seat<O>, other: Seat<O>)
         requires { (seat.old.home ≡ self.now) × (other.home ≡ self.now) }
         ensures { Joined O.step seat.old other seat.new }
@@ -106,7 +106,7 @@ impl<O: Object> Shared<O> {
         seat.turns = most;
     }
 
-    /// Returns after a turn by another seat that this seat hadn't seen: a look has shown more turns than it has seen.
+    /// Waits until a look shows more turns than the seat has seen, so that another seat has had one.
     pub fn wait_change(&self, rt: &impl Wait, seat: &mut Seat<O>)
         requires { seat.old.home ≡ self.now }
         ensures shown { length seat.old.turns < seat.new.shown }

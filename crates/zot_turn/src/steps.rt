@@ -1,6 +1,6 @@
-// The steps that a seat takes on the table.
+//! The steps that a seat takes on the table.
 ghost use Rattle.std.specs.Prelude.{◌≡◌, ◌+◌, ◌%◌, ◌^◌, ◌<◌, ◌≤◌, ◌↔◌, [], ◌∷◌, IsTrue, Some, None};
-ghost use Rattle.zot_turn.specs.Steps.{Takes, MayGive, Drawn, IsBoard, HasNumber, after_turn};
+ghost use Rattle.zot_turn.specs.Steps.{TakesTurn, MayGive, Drawn, IsBoard, HasNumber, after_turn};
 
 use crate::known::Known;
 use crate::object::{Job, Object};
@@ -23,27 +23,26 @@ pub(crate) type Chair<O> = Seat<Option<O>, Known<O, <O as Object>::Entry>>;
 // A park compares the low 32 bits of a word.
 const LOW: u64 = 0xffff_ffff;
 
-// Whether a turn can be taken and given back: none is held, and the count of turns has room for one more.
+// Whether a turn can be taken: none is held, and the count of turns has room for one more.
 fn is_free(word: u64) -> bool
     ensures { IsTrue result ↔ ((word % 2 ≡ 0) × (word + 3 < 2 ^ 64)) }
 {
     word % 2 == 0 && word < u64::MAX - 2
 }
 
-// Waits until the word isn't this any more, or for no reason.
+// Waits until the word is another. It may return before that.
 fn rest<O: Object, R: Wait>(rt: &R, board: &Board<O>, word: usize, was: u64)
     requires { word < board.now.table_id.words }
 {
     board.park(rt, word, (was & LOW) as u32);
 }
 
-/// Waits for the turn, and answers the word that it found, which is twice the number of turns before. Where the count of turns
-/// has no room for one more it waits for ever.
+/// Waits for the turn, and answers the word that it found: twice the number of turns before. Where the count of turns has no room for one more it waits for ever.
 pub(crate) fn take<O: Object, R: Wait>(rt: &R, board: &Board<O>, seat: &mut Chair<O>) -> u64
     requires board { IsBoard board.now.table_id seat.old.table_id }
     requires acts { HasNumber seat.old.me.0.mine }
     ensures seat { (seat.new.table_id ≡ seat.old.table_id) × (seat.new.id ≡ seat.old.id) }
-    ensures taken { Takes O.step result seat.old.me seat.new.me }
+    ensures taken { TakesTurn O.step result seat.old.me seat.new.me }
     ensures room { result + 3 < 2 ^ 64 }
 {
     for _ in rt.forever() {
@@ -105,7 +104,7 @@ pub(crate) fn give<O: Object, J: Job<O>, M: Made<O::Entry>>(
     board.wake_all(0);
 }
 
-/// Draws a number, for as long as others draw too. Where none is left it waits for ever.
+/// Draws a number. Where another seat draws at the same time it tries again, and where none is left it waits for ever.
 pub(crate) fn draw<O: Object, R: Wait>(rt: &R, board: &Board<O>, seat: &mut Chair<O>) -> u64
     requires board { IsBoard board.now.table_id seat.old.table_id }
     requires acts { HasNumber seat.old.me.0.mine }

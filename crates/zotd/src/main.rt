@@ -1,4 +1,6 @@
-//! The registry's program.
+//! The registry's program. It hands the real streams, clock and words to `run_given`, and ends with the status that this answers.
+//!
+//! `zotd pipe` serves one connection from standard input to standard output.
 #![tactic(auto)]
 
 mod arguments;

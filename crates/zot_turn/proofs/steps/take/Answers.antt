@@ -2,7 +2,7 @@ use Rattle.std.proofs.Common.{ℕ, Option, arith, refl, sym, ◌∙◌, subst}
 use Rattle.atomic_table.specs.Table.{Me}
 use Rattle.atomic_table.specs.Seated.{TableId}
 use Rattle.zot_turn.specs.declared.known.Known.{Known}
-use Rattle.zot_turn.specs.Steps.{Takes, HasNumber}
+use Rattle.zot_turn.specs.Steps.{TakesTurn, HasNumber}
 use Rattle.zot_turn.proofs.Changes.{same_still}
 use Rattle.zot_turn.proofs.Taking.{takes_turn, took, not_taken}
 use Rattle.zot_turn.proofs.steps.take.Goals as goal
@@ -18,7 +18,7 @@ returns-then-found-word-clause-taken g c =
     let i = c.loop.invariant in
     let acts = subst (λ (m : Me (Option g.row.O.Denot) (Known g.row.O.Denot g.row.O-Entry.Denot)). HasNumber m.0.mine) (sym i.2) c.requires.acts in
     let now = c.compare_exchange-found.new.seat.me in
-    subst (λ (m : Me (Option g.row.O.Denot) (Known g.row.O.Denot g.row.O-Entry.Denot)). Takes g.O.Object.step c.peek-word.result m now) i.2
+    subst (λ (m : Me (Option g.row.O.Denot) (Known g.row.O.Denot g.row.O-Entry.Denot)). TakesTurn g.O.Object.step c.peek-word.result m now) i.2
     (took g.O.Object.step c.args.board.now.key.value c.peek-word.result c.loop.seat.id c.args.board.now.table_id.slots c.loop.seat.me acts (c.if-is_free.ensures.0 refl).0 c.compare_exchange-found.result now c.if-found-word.true c.compare_exchange-found.ensures.2)
 
 pub loop-preserved-else-found-word : goal.loop-preserved-else-found-word

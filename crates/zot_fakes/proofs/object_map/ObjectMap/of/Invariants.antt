@@ -3,5 +3,5 @@ use Rattle.zot_fakes.specs.Given.{objects_of}
 use Rattle.zot_fakes.proofs.object_map.ObjectMap.of.Given as goal
 
 -- the objects so far are those of the paths so far
-abbrev pub invariant-loop-path : goal.invariant-loop-path
-invariant-loop-path l = l.made ≡ objects_of (each (λ o. (string_bytes o.0, o.1.items)) l.yielded)
+abbrev pub invariant-loop-object : goal.invariant-loop-object
+invariant-loop-object l = l.made ≡ objects_of (each (λ o. (string_bytes o.0, o.1.items)) l.yielded)
