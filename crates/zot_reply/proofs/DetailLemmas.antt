@@ -1,6 +1,6 @@
 -- What the bodies of refusals with a detail are.
 use Rattle.std.proofs.Common.{◌≡◌, ◌≢◌, ℕ, Bool, true, false, List, [], ◌∷◌, ◌++◌, length, Some, refl, sym, ap, ap₂, subst, ◌∙◌, arith}
-use Rattle.std.specs.Prelude.{codes}
+use Rattle.std.specs.Prelude.{codes, ⊤}
 use Rattle.std.proofs.lemmas.List.{append_assoc, length-append}
 use Rattle.json.specs.Print.{escape, escape_byte}
 use Rattle.serde_json.specs.Written.{compact_text}
@@ -20,9 +20,16 @@ use Rattle.zot_spell.specs.Fields.{range_text}
 use Rattle.zot_spell.specs.Spelling.{parts_of, shown_body}
 use Rattle.zot_spell.proofs.AlikeLemmas.{differ_plain, digest_length}
 use Rattle.zot_spell.proofs.PlainLemmas.{IsPlain, plain_digest, plain_text}
-use Rattle.zot_reply.specs.Details.{FindsDigest, TellsMissing, detail_front}
+use Rattle.zot_reply.specs.Details.{FindsDigest, detail_front}
 use Rattle.zot_reply.specs.Reading.{Finds, Has, IsSeen, Seen}
 use Rattle.zot_reply.proofs.ValueLemmas.{refusal_says}
+
+-- the codes whose body names a digest that is missing or unreadable
+abbrev pub NamesMissing : Code → Type 0
+NamesMissing ManifestBlobUnknown = ⊤
+NamesMissing UpstreamIncomplete = ⊤
+NamesMissing UpstreamInvalid = ⊤
+NamesMissing _ = ⊥
 
 -- ---- the text of a detail in its body
 
@@ -49,7 +56,7 @@ front_assoc a c b t r = simp append_assoc
 differ_assoc : (a x w y f b : List ℕ) → a ++ ((x ++ w ++ y ++ f) ++ b) ≡ a ++ (x ++ (w ++ (y ++ (f ++ b))))
 differ_assoc a x w y f b = simp append_assoc
 
-code_plain : (code : Code) → TellsMissing code → escape (code_text code) ≡ code_text code
+code_plain : (code : Code) → NamesMissing code → escape (code_text code) ≡ code_text code
 unfolding code_text escape_byte
 code_plain ManifestBlobUnknown h = refl
 code_plain UpstreamIncomplete h = refl
@@ -60,10 +67,10 @@ mismatch_plain : escape (code_text UpstreamMismatch) ≡ code_text UpstreamMisma
 unfolding code_text escape_byte
 mismatch_plain = refl
 
-pub missing_place : (code : Code) (digest : List ℕ) → TellsMissing code → IsDigest digest
+pub missing_place : (code : Code) (digest : List ℕ) → NamesMissing code → IsDigest digest
     → error_body code (details.Missing digest) ≡ detail_front code ++ (digest_text digest ++ detail_back code)
 unfolding error_body detail_text detail_front
-missing_place code digest tells is = detail_place (code_text code) (digest_text digest) (message_text code) (code_plain code tells) (plain_digest digest is)
+missing_place code digest names_missing is = detail_place (code_text code) (digest_text digest) (message_text code) (code_plain code names_missing) (plain_digest digest is)
     ∙ front_assoc (codes "{\"errors\":[{\"code\":\"") (code_text code) (codes "\",\"detail\":\"") (digest_text digest) (detail_back code)
 
 differ_whole : (wanted found : List ℕ) → IsDigest wanted → IsDigest found
@@ -139,13 +146,13 @@ session_found name head seen id size finds long (details.Session i n) real says 
     session_alike head i id n size (finds i real.0 there.0) (long n real.1 there.1)
 session_found name head seen id size finds long detail real says is = absurd says
 
-pub missing_found : (name : List ℕ) (head : Bool) (seen : Seen) (code : Code) (found : List ℕ) → TellsMissing code → FindsDigest code seen.body 0 found
+pub missing_found : (name : List ℕ) (head : Bool) (seen : Seen) (code : Code) (found : List ℕ) → NamesMissing code → FindsDigest code seen.body 0 found
     → (detail : Detail) → IsRealDetail detail → SaysMissing detail → IsSeen name head (refusal_with code detail) seen → AreDetailsAlike head detail (details.Missing found)
 unfolding parts_of shown_body
-missing_found name true seen code found tells finds (details.Missing digest) real says is = tt
-missing_found name false seen code found tells finds (details.Missing digest) real says (close, is) =
-    ap details.Missing (finds [] digest (detail_back code) refl real (ap (λ (s : Seen). s.body) is ∙ missing_place code digest tells real))
-missing_found name head seen code found tells finds detail real says is = absurd says
+missing_found name true seen code found names_missing finds (details.Missing digest) real says is = tt
+missing_found name false seen code found names_missing finds (details.Missing digest) real says (close, is) =
+    ap details.Missing (finds [] digest (detail_back code) refl real (ap (λ (s : Seen). s.body) is ∙ missing_place code digest names_missing real))
+missing_found name head seen code found names_missing finds detail real says is = absurd says
 
 pub differ_found : (name : List ℕ) (head : Bool) (seen : Seen) (wanted found : List ℕ) → FindsDigest UpstreamMismatch seen.body 9 wanted → FindsDigest UpstreamMismatch seen.body 87 found
     → (detail : Detail) → IsRealDetail detail → SaysDiffer detail → IsSeen name head (refusal_with UpstreamMismatch detail) seen → AreDetailsAlike head detail (details.Differ wanted found)

@@ -26,11 +26,11 @@ use Rattle.zot_spell.specs.Spelling.{all_fields, json_media, parts_of, refusal_f
 use Rattle.zot_spell.proofs.CutLemmas.{cut_front, same_long}
 use Rattle.zot_spell.proofs.AlikeLemmas.{digest_length}
 use Rattle.zot_reply.proofs.CodeLemmas.{body_size, distinct_codes, has_size, high_status, one_code, range_status, size_small}
-use Rattle.zot_reply.proofs.DetailLemmas.{detail_back, differ_place, missing_place, not_session, real_detail, unseen_kind}
+use Rattle.zot_reply.proofs.DetailLemmas.{NamesMissing, detail_back, differ_place, missing_place, not_session, real_detail, unseen_kind}
 use Rattle.zot_reply.proofs.FieldLemmas.{all_are, free_nil}
 use Rattle.zot_reply.proofs.SameLemmas.{AreSpelledAlike, fields_alike, lines_alike, same_digest, same_upload, status_alike, upload_rest}
 use Rattle.zot_reply.proofs.ValueLemmas.{fields_of}
-use Rattle.zot_reply.specs.Details.{TellsMissing, detail_front}
+use Rattle.zot_reply.specs.Details.{detail_front}
 
 -- ---- the fields of refusals
 
@@ -79,12 +79,12 @@ sized_code name call a b x y head c k i j p q h g d f s e =
 
 -- ---- which detail it is, where the body is shown
 
-seen_missing : (code : Code) (x y : Detail) → TellsMissing code → SaysMissing x → SaysMissing y → IsDetail x → IsDetail y → error_body code x ≡ error_body code y → AreSeenAlike x y
-seen_missing code (details.Missing d) (details.Missing f) tells h g x y e =
-    let place = cut_front (detail_front code) (digest_text d ++ detail_back code) (digest_text f ++ detail_back code) (sym (missing_place code d tells x) ∙ e ∙ missing_place code f tells y) in
+seen_missing : (code : Code) (x y : Detail) → NamesMissing code → SaysMissing x → SaysMissing y → IsDetail x → IsDetail y → error_body code x ≡ error_body code y → AreSeenAlike x y
+seen_missing code (details.Missing d) (details.Missing f) names_missing h g x y e =
+    let place = cut_front (detail_front code) (digest_text d ++ detail_back code) (digest_text f ++ detail_back code) (sym (missing_place code d names_missing x) ∙ e ∙ missing_place code f names_missing y) in
     ap details.Missing (same_digest d f x y (same_long (digest_text d) (digest_text f) (detail_back code) (detail_back code) (digest_length d x ∙ sym (digest_length f y)) place).0)
-seen_missing code (details.Missing d) said tells h g x y e = absurd g
-seen_missing code detail said tells h g x y e = absurd h
+seen_missing code (details.Missing d) said names_missing h g x y e = absurd g
+seen_missing code detail said names_missing h g x y e = absurd h
 
 -- what comes after the digest that was wanted
 abbrev after_wanted : List ℕ → List ℕ

@@ -1,16 +1,8 @@
 -- The bodies of refusals with a detail.
-use Rattle.std.specs.Prelude.{◌≡◌, ℕ, List, ◌++◌, length, codes, ⊤}
+use Rattle.std.specs.Prelude.{◌≡◌, ℕ, List, ◌++◌, length, codes}
 use Rattle.zot_digest.specs.Digest.{IsDigest, digest_text}
 use Rattle.zot_model.specs.Codes.{code_text}
 use Rattle.zot_model.specs.declared.code.Code.{Code}
-use Rattle.zot_model.specs.declared.code.Code.TheVariants.{ManifestBlobUnknown, UpstreamIncomplete, UpstreamInvalid}
-
--- the codes whose body says which digest is missing or unreadable
-abbrev pub TellsMissing : Code → Type 0
-TellsMissing ManifestBlobUnknown = ⊤
-TellsMissing UpstreamIncomplete = ⊤
-TellsMissing UpstreamInvalid = ⊤
-TellsMissing _ = ⊥
 
 -- the body of a refusal up to its detail's text
 unfoldable pub detail_front : Code → List ℕ

@@ -18,7 +18,7 @@ use std::alloc::{AllocError, Global};
 use zot_model::{Reply, Request, real_values};
 use zot_spell::{SplitReply, name_of, split_reply};
 
-/// The reply to a request that bytes spell: one that may answer it (`Fits`), to the request's method, whether or not the connection closes after it. `Bad` comes exactly where the bytes spell no such reply, with a body that is longer or shorter than its length among them, and `NoMemory` only where memory runs out. Of replies that are spelled alike one is given, so what `spell_reply` spelled is read as a reply that is equal to it up to its spelling. A body is copied once, into the reply, and the body of a blob, a manifest or an index isn't spelled.
+/// The reply to a request that bytes spell: one that may answer it (`Fits`), to the request's method, whether or not the connection closes after it. `Bad` comes exactly where the bytes spell no such reply, with a body that is longer or shorter than its length among them, and `NoMemory` only where memory runs out. Of replies that are spelled alike one is given, so what `spell_reply` spelled is read as a reply that is equal to it up to its spelling. A body is copied once, into the reply, and no body that the reply holds is spelled.
 pub fn read_reply(alloc: Global, request: &Request, bytes: &[u8]) -> Result<Reply, ReadReplyError>
     ensures read { IfOk result (λ reply. Spells request.now reply bytes.now) }
     ensures bad { result ≡ Err Bad → (reply : Reply) → IsReal reply → ¬ Spells request.now reply bytes.now }

@@ -6,7 +6,7 @@ use Rattle.std.proofs.Math.ListN.{get_or-append}
 use Rattle.std.proofs.Math.Seq.{drop-cons, take-append_seam}
 use Rattle.std.proofs.lemmas.Bool.{eqb-true}
 use Rattle.std.proofs.lemmas.Bool.Decides.{nat_tests}
-use Rattle.std.proofs.lemmas.List.{append_assoc, length-append, length-take, take-append-drop}
+use Rattle.std.proofs.lemmas.List.{length-append, length-take, take-append-drop}
 use Rattle.std.proofs.lemmas.List.Sums.{passes_at_first, position_or_len_is}
 use Rattle.zot_spell.specs.Heads.{IsFree}
 
@@ -29,8 +29,8 @@ free_all end bytes free =
     rw (position_or_len_is (λ (b : ℕ). b == end) bytes (length bytes) 0 (omega arith) (λ k lt. free k lt) (λ lt. absurd (omega (arith, lt))))
     (take_all (length bytes) bytes (omega arith))
 
-pub behind_end : (bytes : List ℕ) (end : ℕ) (rest : List ℕ) → bytes ≡ end ∷ rest → take (length bytes - 1) (drop 1 bytes) ≡ rest
-behind_end bytes end rest e = rw e (take_all _ rest (omega arith))
+pub after_end : (bytes : List ℕ) (end : ℕ) (rest : List ℕ) → bytes ≡ end ∷ rest → take (length bytes - 1) (drop 1 bytes) ≡ rest
+after_end bytes end rest e = rw e (take_all _ rest (omega arith))
 
 pub drop_seam : (text rest : List ℕ) → drop (length text) (text ++ rest) ≡ rest
 drop_seam [] rest = refl
@@ -58,7 +58,7 @@ joined_at bytes front back end place p f b lt =
     let low : position_or_len test bytes < length bytes = omega (arith, pos, lt) in
     let at : (get_or bytes place 0 == end) ≡ true = subst (λ (n : ℕ). (get_or bytes n 0 == end) ≡ true) pos (passes_at_first test bytes 0 low) in
     let tail : drop place bytes ≡ end ∷ drop (suc place) bytes = drop-cons bytes place 0 lt ∙ ap (λ (c : ℕ). c ∷ drop (suc place) bytes) (eqb-true (get_or bytes place 0) end at) in
-    let rest = behind_end back end (drop (suc place) bytes) (b ∙ tail) in
+    let rest = after_end back end (drop (suc place) bytes) (b ∙ tail) in
     sym (take-append-drop place bytes) ∙ ap (λ (t : List ℕ). take place bytes ++ t) tail ∙ ap (λ (t : List ℕ). t ++ (end ∷ drop (suc place) bytes)) (sym f) ∙ ap (λ (t : List ℕ). front ++ (end ∷ t)) (sym rest)
 
 -- ---- texts that are free of a byte

@@ -1,9 +1,9 @@
 -- Replies taken apart.
 use Rattle.std.proofs.Common.{◌≡◌, ℕ, ◌+◌, ◌/◌, ◌%◌, ◌<◌, ◌≤◌, List, [], ◌∷◌, ◌++◌, length, take, drop, refl, sym, ap, ◌∙◌, arith, slice_index, append-nil}
 use Rattle.std.specs.Borrow.{Bor}
-use Rattle.std.specs.List.{AllByRecursion, flat_map}
+use Rattle.std.specs.List.{flat_map}
 use Rattle.std.proofs.lemmas.List.{append_assoc, flat_map_more, length-append}
-use Rattle.http.specs.StatusCode.{IsStatusCode, code_digits}
+use Rattle.http.specs.StatusCode.{code_digits}
 use Rattle.zot_spell.specs.declared.field.Field.{Field}
 use Rattle.zot_spell.specs.Fields.{status_digits, status_line}
 use Rattle.zot_spell.specs.Heads.{AreFields, IsField, IsFree, field_line, fields_text}
@@ -61,6 +61,6 @@ line_at bytes name value rest e = e ∙ simp append_assoc
 pub line_free : (name value : List ℕ) → IsFree 13 name → IsFree 13 value → IsFree 13 (name ++ (58 ∷ (32 ∷ value)))
 line_free name value f g = free_append 13 name (58 ∷ (32 ∷ value)) f (free_cons 13 58 (32 ∷ value) refl (free_cons 13 32 value refl g))
 
-pub line_of : (bytes line behind name text value rest : List ℕ) → bytes ≡ line ++ (13 ∷ behind) → line ≡ name ++ (58 ∷ text) → text ≡ 32 ∷ value → behind ≡ 10 ∷ rest
+pub line_of : (bytes line after name text value rest : List ℕ) → bytes ≡ line ++ (13 ∷ after) → line ≡ name ++ (58 ∷ text) → text ≡ 32 ∷ value → after ≡ 10 ∷ rest
     → bytes ≡ (name ++ (58 ∷ (32 ∷ (value ++ (13 ∷ (10 ∷ [])))))) ++ rest
-line_of bytes line behind name text value rest a b c d = rw (a, b, c, d) (simp append_assoc)
+line_of bytes line after name text value rest a b c d = rw (a, b, c, d) (simp append_assoc)

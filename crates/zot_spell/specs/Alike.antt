@@ -35,13 +35,13 @@ abbrev pub AreDetailsAlike : Bool → Detail → Detail → Type 0
 AreDetailsAlike true detail other = AreUnseenAlike detail other
 AreDetailsAlike false detail other = AreSeenAlike detail other
 
--- pages of tags that are spelled alike: behind the last page there is no number
+-- pages of tags that are spelled alike: after the last page there is no number
 abbrev pub ArePagesAlike : Option (List ℕ) → ℕ → Option (List ℕ) → ℕ → Type 0
 ArePagesAlike None n None m = ⊤
 ArePagesAlike (Some tag) n (Some other) m = (tag ≡ other) × (n ≡ m)
 ArePagesAlike _ n _ m = ⊥
 
--- replies that are equal up to their spelling, to the method HEAD or another: uploads of 0 and of 1 byte, pages of tags behind which none follows, refusals to HEAD whose details are of one kind, and equal ones
+-- replies that are equal up to their spelling, to the method HEAD or another: uploads of 0 and of 1 byte, pages of tags after which none follows, refusals to HEAD whose details are of one kind, and equal ones
 abbrev pub AreAlike : Bool → Reply → Reply → Type 0
 AreAlike head (replies.Session id size status) (replies.Session other count code) = (id ≡ other) × AreSizesAlike size count × (status ≡ code)
 AreAlike head (replies.Tags tags next n) (replies.Tags others follows m) = (tags ≡ others) × ArePagesAlike next n follows m

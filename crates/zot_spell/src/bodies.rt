@@ -1,11 +1,13 @@
 //! The JSON texts that replies have as bodies.
-ghost use Rattle.std.specs.Prelude.{◌≡◌, Some, None, map, IfOk, option_map, string_bytes};
+ghost use Rattle.std.specs.Prelude.{◌≡◌, ◌++◌, Some, None, codes, map, IfOk, option_map, string_bytes};
 ghost use Rattle.serde_json.specs.Data.{array, string};
 ghost use Rattle.serde_json.specs.View.{items_of, view};
+ghost use Rattle.zot_digest.specs.Digest.{digest_text};
 ghost use Rattle.zot_spell.specs.Bodies.{detail_text, error_body, errors_value, page_body, page_value};
 
 use serde_json::{Value, json};
 use std::alloc::{AllocError, Global};
+use zot_digest::Digest;
 use zot_model::{Code, Detail};
 use zot_names::Tag;
 
@@ -45,15 +47,23 @@ fn detail_text(alloc: Global, detail: &Detail) -> Result<Option<String>, AllocEr
 {
     match detail {
         Detail::Missing(digest) => Ok(Some(digest.text(alloc)?)),
-        Detail::Differ(wanted, found) => {
-            let mut text = String::from_str(alloc, "expected ")?;
-            text.push_str(wanted.text(alloc)?.as_str())?;
-            text.push_str(" found ")?;
-            text.push_str(found.text(alloc)?.as_str())?;
-            Ok(Some(text))
-        }
+        Detail::Differ(wanted, found) => Ok(Some(differing_text(alloc, wanted, found)?)),
         _ => Ok(None),
     }
+}
+
+// That one digest was wanted and another one found.
+fn differing_text(alloc: Global, wanted: &Digest, found: &Digest) -> Result<String, AllocError>
+    ensures { IfOk result (λ text. string_bytes text
+        ≡ codes "expected " ++ digest_text wanted.now ++ codes " found " ++ digest_text found.now) }
+{
+    let wanted = wanted.text(alloc)?;
+    let found = found.text(alloc)?;
+    let mut text = String::from_str(alloc, "expected ")?;
+    text.push_str(wanted.as_str())?;
+    text.push_str(" found ")?;
+    text.push_str(found.as_str())?;
+    Ok(text)
 }
 
 /// The body of a page of tags.

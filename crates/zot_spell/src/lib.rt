@@ -1,4 +1,9 @@
-//! How the replies of a registry and its requests are spelled on the wire.
+//! How the replies of a registry and its requests are spelled on the wire, byte by byte as `specs/Spelling.antt` and
+//! `specs/Wire.antt` define it. `split_reply` takes a reply's bytes apart again.
+//!
+//! `spell_reply(alloc, Some(&request), &Reply::BlobMade { digest }, false, true)` gives `HTTP/1.1 201 Created`, the fields
+//! `Location`, `Docker-Content-Digest`, `Content-Length` and `Connection`, and an empty line. To write a blob without a copy
+//! of it, write `spell_front(..)` and then `held_body(..)`.
 #![tactic(auto)]
 
 mod bodies;

@@ -47,7 +47,7 @@ pub fn spell_front(
     head: bool,
     close: bool,
 ) -> Result<Vec<u8>, AllocError>
-    requires { MayHave (option_copied request) reply.now }
+    requires fits { MayHave (option_copied request) reply.now }
     ensures { IfOk result (λ front. front.items ++ shown_body head (held_body reply.now)
         ≡ reply_bytes (option_copied request.entry) reply.now head close) }
 {

@@ -120,17 +120,27 @@ fn split_line(bytes: &[u8]) -> Option<(&[u8], &[u8], &[u8])>
         → MatchOption result ⊥ (λ parts. (parts.0.now ≡ name) × (parts.1.now ≡ value) × (parts.2.now ≡ rest)) }
     ensures end { (rest : List ℕ) → bytes.now ≡ 13 ∷ (10 ∷ rest) → result ≡ None }
 {
-    let Some((line, behind)) = cut(bytes, b'\r') else {
+    let Some(line) = cut_by(bytes, b'\r', b'\n') else {
         return None;
     };
-    let Some((name, text)) = cut(line, b':') else {
+    let Some(field) = cut_by(line.0, b':', b' ') else {
         return None;
     };
-    let Some(value) = after(text, b" ".as_slice()) else {
+    Some((field.0, field.1, line.1))
+}
+
+// The bytes before and after the first one that is the end, where the other one follows it.
+fn cut_by(bytes: &[u8], end: u8, next: u8) -> Option<(&[u8], &[u8])>
+    ensures joined { IfSome result (λ parts. bytes.now ≡ parts.0.now ++ (end ∷ (next ∷ parts.1.now))) }
+    ensures found { (text rest : List ℕ) → IsFree end text → bytes.now ≡ text ++ (end ∷ (next ∷ rest))
+        → MatchOption result ⊥ (λ parts. (parts.0.now ≡ text) × (parts.1.now ≡ rest)) }
+    ensures none { IsFree end bytes.now → result ≡ None }
+{
+    let Some(parts) = cut(bytes, end) else {
         return None;
     };
-    let Some(rest) = after(behind, b"\n".as_slice()) else {
-        return None;
-    };
-    Some((name, value, rest))
+    match after(parts.1, [next].as_slice()) {
+        Some(rest) => Some((parts.0, rest)),
+        None => None,
+    }
 }

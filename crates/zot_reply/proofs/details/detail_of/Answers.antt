@@ -2,9 +2,9 @@ use Rattle.std.proofs.Common.{sym, subst}
 use Rattle.zot_model.specs.Codes.{HasDetail}
 use Rattle.zot_model.specs.Refusals.{refusal_with}
 use Rattle.zot_model.specs.declared.code.Code.{Code}
-use Rattle.zot_reply.specs.Details.{FindsDigest, TellsMissing}
+use Rattle.zot_reply.specs.Details.{FindsDigest}
 use Rattle.zot_reply.specs.Reading.{IsSeen, seen_of}
-use Rattle.zot_reply.proofs.DetailLemmas.{differ_found, missing_found, session_found}
+use Rattle.zot_reply.proofs.DetailLemmas.{NamesMissing, differ_found, missing_found, session_found}
 use Rattle.zot_reply.proofs.details.detail_of.Goals as goal
 
 pub returns-in-BlobUploadInvalid : goal.returns-in-BlobUploadInvalid
@@ -14,15 +14,15 @@ returns-in-BlobUploadInvalid c = λ name head detail real has is.
 
 pub returns-in-ManifestBlobUnknown : goal.returns-in-ManifestBlobUnknown
 returns-in-ManifestBlobUnknown c = λ name head detail real has is.
-    missing_found name head (seen_of c.args.split.now) c.args.code _ (subst TellsMissing (sym c.in-ManifestBlobUnknown.is) tt) c.digest_at.ensures detail real (subst (λ (r : Code). HasDetail r detail) c.in-ManifestBlobUnknown.is has) is
+    missing_found name head (seen_of c.args.split.now) c.args.code _ (subst NamesMissing (sym c.in-ManifestBlobUnknown.is) tt) c.digest_at.ensures detail real (subst (λ (r : Code). HasDetail r detail) c.in-ManifestBlobUnknown.is has) is
 
 pub returns-in-UpstreamIncomplete : goal.returns-in-UpstreamIncomplete
 returns-in-UpstreamIncomplete c = λ name head detail real has is.
-    missing_found name head (seen_of c.args.split.now) c.args.code _ (subst TellsMissing (sym c.in-UpstreamIncomplete.is) tt) c.digest_at-in-UpstreamIncomplete.ensures detail real (subst (λ (r : Code). HasDetail r detail) c.in-UpstreamIncomplete.is has) is
+    missing_found name head (seen_of c.args.split.now) c.args.code _ (subst NamesMissing (sym c.in-UpstreamIncomplete.is) tt) c.digest_at-in-UpstreamIncomplete.ensures detail real (subst (λ (r : Code). HasDetail r detail) c.in-UpstreamIncomplete.is has) is
 
 pub returns-in-UpstreamInvalid : goal.returns-in-UpstreamInvalid
 returns-in-UpstreamInvalid c = λ name head detail real has is.
-    missing_found name head (seen_of c.args.split.now) c.args.code _ (subst TellsMissing (sym c.in-UpstreamInvalid.is) tt) c.digest_at-in-UpstreamInvalid.ensures detail real (subst (λ (r : Code). HasDetail r detail) c.in-UpstreamInvalid.is has) is
+    missing_found name head (seen_of c.args.split.now) c.args.code _ (subst NamesMissing (sym c.in-UpstreamInvalid.is) tt) c.digest_at-in-UpstreamInvalid.ensures detail real (subst (λ (r : Code). HasDetail r detail) c.in-UpstreamInvalid.is has) is
 
 pub returns-in-UpstreamMismatch : goal.returns-in-UpstreamMismatch
 returns-in-UpstreamMismatch c = λ name head detail real has is.

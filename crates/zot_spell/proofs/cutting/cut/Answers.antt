@@ -2,7 +2,7 @@ use Rattle.std.proofs.Common.{◌≡◌, ◌∙◌, ◌∷◌, ◌==◌, List, �
 use Rattle.std.specs.List.{before_first, position_or_len}
 use Rattle.std.proofs.lemmas.List.{length-take}
 use Rattle.std.proofs.Math.Seq.{take-append_seam}
-use Rattle.zot_spell.proofs.CutLemmas.{before_end, behind_end, drop_seam, free_all, joined_at}
+use Rattle.zot_spell.proofs.CutLemmas.{before_end, after_end, drop_seam, free_all, joined_at}
 use Rattle.zot_spell.proofs.cutting.cut.Goals as goal
 
 pub returns-then-place-bytes-clause-found : goal.returns-then-place-bytes-clause-found
@@ -16,7 +16,7 @@ returns-clause-found c = λ text rest free e.
     let t : c.before-place.result.now ≡ text = c.before-place.ensures ∙ ap (λ (bytes : List ℕ). before_first (λ (b : ℕ). b == c.args.end) bytes) e ∙ before_end c.args.end text rest free in
     let n = ap length t in (
       c.split_at.ensures.front ∙ ap₂ (λ (n : ℕ) (bytes : List ℕ). take n bytes) n e ∙ take-append_seam text (c.args.end ∷ rest),
-      behind_end c.split_at.result.1.now c.args.end rest (c.split_at.ensures.back ∙ ap₂ (λ (n : ℕ) (bytes : List ℕ). drop n bytes) n e ∙ drop_seam text (c.args.end ∷ rest)),
+      after_end c.split_at.result.1.now c.args.end rest (c.split_at.ensures.back ∙ ap₂ (λ (n : ℕ) (bytes : List ℕ). drop n bytes) n e ∙ drop_seam text (c.args.end ∷ rest)),
     )
 
 pub returns-clause-none : goal.returns-clause-none

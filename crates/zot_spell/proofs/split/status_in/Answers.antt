@@ -1,4 +1,4 @@
-use Rattle.std.proofs.Common.{◌≡◌, ◌<◌, ◌++◌, take, drop, length, ap, ◌∙◌, arith, Some}
+use Rattle.std.proofs.Common.{◌≡◌, ◌<◌, take, drop, length, ap, ◌∙◌, arith, Some}
 use Rattle.http.specs.StatusCode.{code_digits}
 use Rattle.zot_spell.proofs.SplitLemmas.{digits_at, same_digits, status_long}
 use Rattle.zot_spell.proofs.split.status_in.Goals as goal
