@@ -1,2 +1,7 @@
 pub mod Media
 pub mod Document
+pub mod Fields
+pub mod Descriptors
+pub mod Manifest
+pub mod References
+pub mod Answers
