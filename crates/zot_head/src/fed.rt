@@ -1,5 +1,5 @@
 /// What a piece of a body in chunks gave.
-#[derive(Clone, Copy, PartialEq, Eq)]
+#[derive(Clone, Copy, Debug, PartialEq, Eq)]
 pub struct Fed {
     /// How many of the piece's bytes belong to the body in chunks.
     pub taken: usize,

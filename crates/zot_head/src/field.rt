@@ -1,7 +1,7 @@
 use zot_digest::{Bytes, Words};
 
 /// One field line of a head (RFC 9112, section 5).
-#[derive(Drop)]
+#[derive(Debug, Drop)]
 pub struct Field {
     /// The field's name, as it stands.
     pub name: Words,

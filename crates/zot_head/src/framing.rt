@@ -1,5 +1,5 @@
 /// How a request's body is framed (RFC 9112, section 6.3).
-#[derive(Clone, Copy)]
+#[derive(Clone, Copy, Debug)]
 pub enum Framing {
     /// There is no body.
     None,

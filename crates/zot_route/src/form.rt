@@ -1,7 +1,7 @@
 //! The forms of a path.
 
 /// The forms of a path after `/v2/` (OCI Distribution Specification, "Endpoints").
-#[derive(Clone, Copy)]
+#[derive(Clone, Copy, Debug)]
 pub enum Form {
     /// Nothing.
     Base,

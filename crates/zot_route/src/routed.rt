@@ -2,7 +2,7 @@
 use zot_model::{Reply, Request};
 
 /// What becomes of a message whose head and body are whole.
-#[derive(Drop)]
+#[derive(Debug, Drop, PartialEq, Eq)]
 pub enum Routed {
     /// It asks this.
     Request(Request),
