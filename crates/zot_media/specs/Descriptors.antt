@@ -9,16 +9,16 @@ use Rattle.zot_media.specs.Fields.{◌>>=◌, each, list_of, text_of, whole_of}
 use Rattle.zot_media.specs.declared.descriptor.Descriptor.{Descriptor}
 
 -- the digest of the content
-unfoldable pub digest_of : Data → Option (List ℕ)
-digest_of value = text_of (codes "digest") value >>= digest_named
+unfoldable pub digest_in : Data → Option (List ℕ)
+digest_in value = text_of (codes "digest") value >>= digest_named
 
 -- a size that 63 bits hold
 abbrev pub size_within : ℕ → Option ℕ
 size_within size = if nat_lt size (2 ^ 63) then Some size else None
 
 -- how many bytes the content has
-unfoldable pub size_of : Data → Option ℕ
-size_of value = whole_of (codes "size") value >>= size_within
+unfoldable pub size_in : Data → Option ℕ
+size_in value = whole_of (codes "size") value >>= size_within
 
 -- whether a list has an element
 abbrev pub has_element : {A : Type 0} → List A → Bool
@@ -30,16 +30,16 @@ abbrev pub external_by : List Data → Option Bool
 external_by urls = if list_all (λ url. is_some (as_str url)) urls then Some (has_element urls) else None
 
 -- whether the content may be fetched elsewhere: `urls` has an element. It is missing, null or a list of texts
-unfoldable pub external_of : Data → Option Bool
-external_of value = list_of (codes "urls") value >>= external_by
+unfoldable pub external_in : Data → Option Bool
+external_in value = list_of (codes "urls") value >>= external_by
 
 -- the descriptor that a value is
 unfoldable pub descriptor_of : Data → Option Descriptor
 descriptor_of value = do
   media ← text_of (codes "mediaType") value
-  digest ← digest_of value
-  size ← size_of value
-  external ← external_of value
+  digest ← digest_in value
+  size ← size_in value
+  external ← external_in value
   Some (record { media = media; digest = digest; size = size; external = external })
 
 -- the descriptors of a field that is a list of them; a field that is missing or null counts as an empty one

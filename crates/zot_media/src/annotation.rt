@@ -5,7 +5,7 @@ use std::alloc::{AllocError, Global};
 use zot_digest::Words;
 
 /// A key and its text (OCI Image Specification 1.1, "Annotations").
-#[derive(Debug, Drop)]
+#[derive(Drop)]
 pub struct Annotation {
     /// The key.
     pub key: Words,

@@ -6,7 +6,7 @@ use std::alloc::{AllocError, Global};
 use std::marker::Model;
 
 /// Annotations in a list. Contracts see the list.
-#[derive(Debug, Drop)]
+#[derive(Drop)]
 pub struct AnnotationList {
     items: Vec<Annotation>,
 }

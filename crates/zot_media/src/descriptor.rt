@@ -5,7 +5,7 @@ use std::alloc::{AllocError, Global};
 use zot_digest::{Digest, Words};
 
 /// What a manifest says of another content (OCI Image Specification 1.1, "Content Descriptors").
-#[derive(Debug, Drop)]
+#[derive(Drop)]
 pub struct Descriptor {
     /// The text of the content's media, as it stands.
     pub media: Words,

@@ -6,7 +6,7 @@ use std::alloc::{AllocError, Global};
 use std::marker::Model;
 
 /// Descriptors in a list. Contracts see the list.
-#[derive(Debug, Drop)]
+#[derive(Drop)]
 pub struct DescriptorList {
     items: Vec<Descriptor>,
 }

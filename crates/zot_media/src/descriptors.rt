@@ -4,7 +4,7 @@ ghost use Rattle.std.specs.List.{list_all};
 ghost use Rattle.serde_json.specs.Find.{as_str};
 ghost use Rattle.serde_json.specs.View.{view};
 ghost use Rattle.zot_media.specs.Answers.{IsRead};
-ghost use Rattle.zot_media.specs.Descriptors.{descriptor_of, descriptors_of, digest_of, external_by, external_of, size_of};
+ghost use Rattle.zot_media.specs.Descriptors.{descriptor_of, descriptors_of, digest_in, external_by, external_in, size_in};
 ghost use Rattle.zot_media.specs.Fields.{each};
 
 use crate::descriptor::Descriptor;
@@ -52,13 +52,13 @@ pub fn read_descriptor(alloc: Global, value: &Value) -> Result<Descriptor, Media
     let Some(media) = text_of(value, "mediaType") else {
         return Err(MediaError::Bad);
     };
-    let Some(digest) = digest_of(value) else {
+    let Some(digest) = digest_in(value) else {
         return Err(MediaError::Bad);
     };
-    let Some(size) = size_of(value) else {
+    let Some(size) = size_in(value) else {
         return Err(MediaError::Bad);
     };
-    let Some(external) = external_of(value) else {
+    let Some(external) = external_in(value) else {
         return Err(MediaError::Bad);
     };
     let media = Words::new(String::from_str(alloc, media)?);
@@ -71,9 +71,9 @@ pub fn read_descriptor(alloc: Global, value: &Value) -> Result<Descriptor, Media
 }
 
 // The digest of the content.
-#[tactic(auto, unfolding(crate::specs::Descriptors::digest_of))]
-fn digest_of(value: &Value) -> Option<Digest>
-    ensures { result ≡ digest_of (view value.now) }
+#[tactic(auto, unfolding(crate::specs::Descriptors::digest_in))]
+fn digest_in(value: &Value) -> Option<Digest>
+    ensures { result ≡ digest_in (view value.now) }
 {
     match text_of(value, "digest") {
         Some(text) => parse_digest(text).ok(),
@@ -82,9 +82,9 @@ fn digest_of(value: &Value) -> Option<Digest>
 }
 
 // How many bytes the content has.
-#[tactic(auto, unfolding(crate::specs::Descriptors::size_of))]
-fn size_of(value: &Value) -> Option<u64>
-    ensures { result ≡ size_of (view value.now) }
+#[tactic(auto, unfolding(crate::specs::Descriptors::size_in))]
+fn size_in(value: &Value) -> Option<u64>
+    ensures { result ≡ size_in (view value.now) }
 {
     match whole_of(value, "size") {
         Some(size) if size <= GREATEST_SIZE => Some(size),
@@ -93,9 +93,9 @@ fn size_of(value: &Value) -> Option<u64>
 }
 
 // Whether the content may be fetched elsewhere: the field `urls` has an element.
-#[tactic(auto, unfolding(crate::specs::Descriptors::external_of))]
-fn external_of(value: &Value) -> Option<bool>
-    ensures { result ≡ external_of (view value.now) }
+#[tactic(auto, unfolding(crate::specs::Descriptors::external_in))]
+fn external_in(value: &Value) -> Option<bool>
+    ensures { result ≡ external_in (view value.now) }
 {
     match list_of(value, "urls") {
         Some(urls) => external_by(urls),

@@ -34,10 +34,10 @@ pub fn read_document(alloc: Global, bytes: &[u8]) -> Result<Value, MediaError>
 pub fn given<'a>(value: &'a Value, name: &str) -> Option<&'a Value>
     ensures { option_map (λ field. view field.now) result ≡ given name.now (view value.now) }
 {
-    match value.get(name) {
-        Some(field) if !field.is_null() => Some(field),
-        _ => None,
-    }
+    let Some(field) = value.get(name) else {
+        return None;
+    };
+    if field.is_null() { None } else { Some(field) }
 }
 
 /// The text that a field is.

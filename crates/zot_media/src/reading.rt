@@ -12,7 +12,7 @@ use std::alloc::{AllocError, Global};
 use zot_digest::{Digest, Words};
 
 /// What a manifest says (OCI Image Specification 1.1, "Image Manifest" and "Image Index").
-#[derive(Debug, Drop)]
+#[derive(Drop)]
 pub struct Reading {
     /// The config of an image and then its layers; none of an index.
     pub references: DescriptorList,
