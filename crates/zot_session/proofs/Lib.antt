@@ -10,3 +10,4 @@ pub mod RoomLemmas
 pub mod SessionLemmas
 pub mod TurnLemmas
 pub mod WireLemmas
+pub mod PartLemmas

@@ -22,20 +22,12 @@ use Rattle.zot_session.specs.Turn.{AnswersFront, Exchanged, GoesOn, RefusalEnds,
 use Rattle.zot_session.specs.Waiting.{Waiting}
 use Rattle.zot_spell.specs.Spelling.{reply_bytes}
 use Rattle.zot_session.proofs.CauseLemmas.{unsent_no_read}
+use Rattle.zot_session.proofs.PartLemmas.{part_after}
 
 -- what stopped wrote a part
 stops_part : (error : SendError) (before after : Option (List ℕ)) (text : List ℕ) → StopsWriting error before text after → WritesPart before text after
 stops_part errors.Fault before after text h = h
 stops_part errors.NoMemory before after text h = record { part = []; lost = text; whole = refl; written = subst (λ x. Appends before [] x) (sym h) (Appends-nil before) }
-
--- a text of which the first part was written whole, and of the second a part
-part_after : (first second : List ℕ) (before mid after : Option (List ℕ)) → Appends before first mid → WritesPart mid second after → WritesPart before (first ++ second) after
-part_after first second before mid after h w = record {
-  part = first ++ w.part;
-  lost = w.lost;
-  whole = ap (λ t. first ++ t) w.whole ∙ sym (append_assoc first w.part w.lost);
-  written = Appends-append before mid after first w.part h w.written;
-}
 
 module _ {A : Type 0} (answers : A → Request → Reply → A → Type 0) where
   -- what came of a message, by what was written of its reply

@@ -1,5 +1,5 @@
 //! Replies written to a sink.
-ghost use Rattle.std.specs.Prelude.{◌≡◌, Err, OnErr, OnOk};
+ghost use Rattle.std.specs.Prelude.{◌≡◌, ◌++◌, Err, OnErr, OnOk};
 ghost use Rattle.std.specs.Option.{option_copied};
 ghost use Rattle.zot_outside.specs.Faults.{HasCause};
 ghost use Rattle.zot_outside.specs.Streams.{Appends};
@@ -14,9 +14,9 @@ use std::alloc::Global;
 use zot_head::Head;
 use zot_model::{Reply, Request};
 use zot_outside::{Failed, Sink};
-use zot_spell::spell_reply;
+use zot_spell::{held_body, spell_front};
 
-/// Writes a reply to a request, or to a message that asks for nothing. `head` says that the method is HEAD, `close` that the connection closes after the reply.
+/// Writes a reply to a request, or to a message that asks for nothing. `head` says that the method is HEAD, `close` that the connection closes after the reply. The bytes of a blob, a manifest or an index aren't copied.
 pub fn send<K: Sink>(
     alloc: Global,
     sink: &mut K,
@@ -29,12 +29,24 @@ pub fn send<K: Sink>(
     ensures sends { Sends result (K.held sink.old) (reply_bytes (option_copied request.entry) reply.now head close) (K.held sink.new) }
     ensures faults { Counts (result ≡ Err errors.Fault) (K.faults sink.old) (K.faults sink.new) }
 {
-    match spell_reply(alloc, request, reply, head, close) {
-        Ok(text) => match write_all(sink, text.as_slice()) {
+    match spell_front(alloc, request, reply, head, close) {
+        Ok(front) => match write_both(sink, front.as_slice(), held_body(head, reply)) {
             Ok(()) => Ok(()),
             Err(Failed) => Err(SendError::Fault),
         },
         Err(_) => Err(SendError::NoMemory),
+    }
+}
+
+// Writes all bytes of two texts, one after the other, unless the sink fails. After an `Err` a part of them was written.
+fn write_both<K: Sink>(sink: &mut K, first: &[u8], second: &[u8]) -> Result<(), Failed>
+    ensures cause { HasCause (K.faults sink.old) (K.faults sink.new) result }
+    ensures ok { OnOk result (Appends (K.held sink.old) (first.now ++ second.now) (K.held sink.new)) }
+    ensures err { OnErr result (WritesPart (K.held sink.old) (first.now ++ second.now) (K.held sink.new)) }
+{
+    match write_all(sink, first) {
+        Ok(()) => write_all(sink, second),
+        Err(Failed) => Err(Failed),
     }
 }
 
