@@ -24,7 +24,11 @@ pub fn asked(alloc: Global, given: &str) -> Result<Request, Trouble> {
         Framing::Chunked => return Err(Trouble::Wrong("chunks")),
     };
     confirm(size == body.len() as u64, "another length than its body's")?;
-    match route(alloc, &ParsedHead::new(&head), Vec::from_slice(alloc, body)?)? {
+    match route(
+        alloc,
+        &ParsedHead::new(&head),
+        Vec::from_slice(alloc, body)?,
+    )? {
         Routed::Request(request) => Ok(request),
         Routed::Refused(_) => Err(Trouble::Wrong("a refused message")),
     }

@@ -66,7 +66,11 @@ fn asked(alloc: Global, head: &[u8], body: &[u8]) -> Result<Request, Trouble>
     if body.len() as u64 > BODY_LIMIT {
         return Err(Trouble::Wrong("too long a body"));
     }
-    match route(alloc, &ParsedHead::new(&head), Vec::from_slice(alloc, body)?)? {
+    match route(
+        alloc,
+        &ParsedHead::new(&head),
+        Vec::from_slice(alloc, body)?,
+    )? {
         Routed::Request(request) => Ok(request),
         Routed::Refused(_) => Err(Trouble::Wrong("refused")),
     }

@@ -1,5 +1,5 @@
 -- What a folder's listing has, and which of its paths comes next.
-use Rattle.std.proofs.Common.{◌≡◌, ◌≢◌, ℕ, zero, suc, ◌<◌, ◌≤◌, Bool, true, false, cond, eqb, ltb, ◌+◌, ◌⊎◌, inl, inr, List, [], ◌∷◌, ◌++◌, length, get_or, take, drop, map, Option, Some, None, option_map, refl, sym, ap, ◌∙◌, subst, arith, All, Bor, String, string_bytes, string_cmp, IsSorted, IfSome, IsSomeAnd, MatchOption, unwrap_or}
+use Rattle.std.proofs.Common.{◌≡◌, ◌≢◌, ℕ, zero, suc, ◌<◌, ◌≤◌, Bool, true, false, cond, eqb, ltb, ◌+◌, ◌⊎◌, inl, inr, List, [], ◌∷◌, ◌++◌, length, get_or, take, drop, map, Option, Some, None, option_map, refl, sym, ap, ◌∙◌, subst, arith, All, Bor, String, string_bytes, string_cmp, IsSorted, IfSome, MatchOption, unwrap_or}
 use Rattle.std.proofs.lemmas.Bool.{eqb-false, ltb-false, ltb-true}
 use Rattle.std.proofs.lemmas.Cmp.{tied_itself, upto}
 use Rattle.std.proofs.lemmas.List.{get_or-map, get_or-drop, get_or_default, length-drop, length-map, take_at}
@@ -14,7 +14,7 @@ use Rattle.std.specs.declared.cmp.Ordering.{Ordering}
 use Rattle.std.specs.declared.cmp.Ordering.TheVariants.{Less, Equal, Greater}
 use Rattle.std.specs.Ordering.{is_gt, is_le, is_lt, ordering_reverse}
 use Rattle.zot_maps.proofs.Maps.{byte_order}
-use Rattle.zot_outside.specs.Listing.{FindsAbove, IsChild, IsEntry, IsFileAbove, IsFilePath}
+use Rattle.zot_outside.specs.Listing.{FindsAbove, IsChild, IsEntry, IsFileAbove}
 use Rattle.zot_outside.specs.Objects.{path_cmp}
 
 -- no slash stands from a place on up to another
@@ -152,22 +152,16 @@ above_bound path bound other h less =
       | Greater ↦ λ greater. absurd (h greater)
     ] refl
 
--- the bound of a walk stays, or becomes the path that was found
-pub bound_kept : {Z : Type 0} (after bound next : List ℕ) (least : Option (String Z)) → path_cmp after bound ≢ Greater → IfSome least (λ path. path_cmp bound (string_bytes path) ≡ Less)
-    → (next ≡ bound) ⊎ IsSomeAnd least (λ path. string_bytes path ≡ next) → path_cmp after next ≢ Greater
-bound_kept after bound next least h above (inl same) = subst (λ b. path_cmp after b ≢ Greater) (sym same) h
-bound_kept after bound next None h above (inr is) = absurd is
-bound_kept after bound next (Some path) h above (inr is) =
-    subst (λ b. path_cmp after b ≢ Greater) is (less_not_greater after (string_bytes path) (above_bound after bound (string_bytes path) h above))
+-- a bound that isn't less than a path stays so
+pub bound_kept : (after bound next : List ℕ) → path_cmp after bound ≢ Greater → (next ≡ bound) ⊎ (path_cmp bound next ≡ Less) → path_cmp after next ≢ Greater
+bound_kept after bound next h (inl same) = subst (λ b. path_cmp after b ≢ Greater) (sym same) h
+bound_kept after bound next h (inr less) = less_not_greater after next (above_bound after bound next h less)
 
--- the file that a walk ends with is greater than the path that it began after
-pub found_file : {Z : Type 0} (after bound : List ℕ) (least found : Option (String Z)) → path_cmp after bound ≢ Greater → IfSome least (λ path. path_cmp bound (string_bytes path) ≡ Less)
-    → IfSome (option_map string_bytes found) (λ path. IsFilePath path × (option_map string_bytes least ≡ Some path)) → IfSome found (λ path. IsFileAbove after (string_bytes path))
-found_file after bound least None h above is = tt
-found_file after bound None (Some file) h above is = cc is.1
-found_file after bound (Some path) (Some file) h above is =
-    let same : string_bytes path ≡ string_bytes file = cc is.1 in
-    record { above = above_bound after bound (string_bytes file) h (subst (λ p. path_cmp bound p ≡ Less) same above); file = is.0 }
+-- what is greater than the bound of a walk is greater than the path that it began after
+pub file_after : {Z : Type 0} (after bound : List ℕ) (found : Option (String Z)) → path_cmp after bound ≢ Greater → IfSome (option_map string_bytes found) (IsFileAbove bound)
+    → IfSome found (λ path. IsFileAbove after (string_bytes path))
+file_after after bound None h is = tt
+file_after after bound (Some file) h is = record { above = above_bound after bound (string_bytes file) h is.above; file = is.file }
 
 -- a fact of each element, where one more was added or none
 pub All-added : {X : Type 0} (P : X → Type 0) (was now : List X) (more : Option X) → (more ≡ None → now ≡ was) → IfSome more (λ x. now ≡ was ++ x ∷ []) → IfSome more P → All P was → All P now

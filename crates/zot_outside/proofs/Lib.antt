@@ -1,4 +1,4 @@
-pub mod FolderLemmas
+mod FolderLemmas
 pub mod ListingLemmas
 pub mod MomentLemmas
 pub mod ObjectLemmas

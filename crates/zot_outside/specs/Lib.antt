@@ -6,5 +6,5 @@ pub mod Moments
 pub mod Objects
 pub mod Paths
 pub mod Place
-pub mod Spots
+pub mod Steps
 pub mod Streams

@@ -9,7 +9,7 @@ use crate::stores::answers::{done, fault, found};
 use crate::stores::files::{copy_file, extend_file, file_size, read_file, remove_file, write_file};
 use crate::stores::place::Place;
 use crate::stores::root::Root;
-use crate::stores::walk::Walk;
+use crate::stores::walk::{Walk, next_file};
 use crate::stores::{Store, StoreResult};
 use std::alloc::{AllocError, Global};
 use std::fs::Files;
@@ -99,7 +99,7 @@ impl<R: Files + AllocGlobal + Clone + Drop> Store for FolderStore<R> {
             alloc,
             name: self.root.as_str(),
         };
-        let next = self.walk.next(&root, after);
+        let next = next_file(&mut self.walk, &root, after);
         done(&mut self.faults, next)
     }
 

@@ -1,7 +1,7 @@
 //! Where a walk stands.
 ghost use Rattle.std.specs.Prelude.{◌≡◌, ◌⊎◌, IfOk, IfSome, IsSomeAnd, None, Some, option_map, string_bytes};
 ghost use Rattle.zot_outside.specs.Listing.{IsFilePath};
-ghost use Rattle.zot_outside.specs.Spots.{OnEnd};
+ghost use Rattle.zot_outside.specs.Steps.{OnEnd};
 
 use std::alloc::{AllocError, Global};
 
@@ -14,7 +14,9 @@ pub struct Spot {
 
 /// What a step of a walk came to.
 #[derive(Drop)]
-pub enum Found {
+pub enum Step {
+    /// The folder has to be read first.
+    Unread,
     /// The walk goes on in another folder.
     Folder,
     /// The walk found a file, or there is none.
@@ -22,7 +24,7 @@ pub enum Found {
 }
 
 impl Spot {
-    /// Where a walk begins that looks for the paths after one.
+    /// Where a walk begins that looks for the path after one.
     pub fn at(alloc: Global, after: &str) -> Result<Spot, AllocError>
         ensures { IfOk result (λ spot. string_bytes spot.bound ≡ after.now) }
     {
@@ -47,7 +49,7 @@ impl Spot {
     }
 
     /// Goes on from the least path in the folder that is greater than the bound: a file is the end, a folder is entered, and a folder that has no more is left.
-    pub fn follow(&mut self, alloc: Global, least: Option<String>) -> Result<Found, AllocError>
+    pub fn follow(&mut self, alloc: Global, least: Option<String>) -> Result<Step, AllocError>
         ensures end { IfOk result (λ step. OnEnd step (λ found. IfSome found (λ path. IsFilePath path × (option_map string_bytes least ≡ Some path)))) }
         ensures bound { IfOk result (λ _. (string_bytes self.new.bound ≡ string_bytes self.old.bound) ⊎ IsSomeAnd least (λ path. string_bytes path ≡ string_bytes self.new.bound)) }
     {
@@ -58,7 +60,7 @@ impl Spot {
     }
 
     // Enters a folder, whose path ends with a slash, or ends with a file.
-    fn enter(&mut self, alloc: Global, path: String) -> Result<Found, AllocError>
+    fn enter(&mut self, alloc: Global, path: String) -> Result<Step, AllocError>
         ensures end { IfOk result (λ step. OnEnd step (λ found. IsFilePath (string_bytes path) × (found ≡ Some (string_bytes path)))) }
         ensures bound { IfOk result (λ _. (string_bytes self.new.bound ≡ string_bytes self.old.bound) ⊎ (string_bytes path ≡ string_bytes self.new.bound)) }
     {
@@ -66,22 +68,22 @@ impl Spot {
             Some(folder) => {
                 self.folder = String::from_str(alloc, folder)?;
                 self.bound = path;
-                Ok(Found::Folder)
+                Ok(Step::Folder)
             }
-            None => Ok(Found::End(Some(path))),
+            None => Ok(Step::End(Some(path))),
         }
     }
 
-    // Leaves the folder for the one that it lies in, or ends where it is the root.
-    fn leave(&mut self, alloc: Global) -> Result<Found, AllocError>
+    // Leaves the folder for the one that it lies in, or ends if it is the root.
+    fn leave(&mut self, alloc: Global) -> Result<Step, AllocError>
         ensures end { IfOk result (λ step. OnEnd step (λ found. found ≡ None)) }
         ensures bound { self.new.bound ≡ self.old.bound }
     {
         if self.folder.is_empty() {
-            return Ok(Found::End(None));
+            return Ok(Step::End(None));
         }
         self.folder = String::from_str(alloc, folder_of(self.folder.as_str()))?;
-        Ok(Found::Folder)
+        Ok(Step::Folder)
     }
 }
 

@@ -1,14 +1,15 @@
 //! The files below a folder, one after another by their paths.
-ghost use Rattle.std.specs.Prelude.{◌≡◌, ◌<◌, [], IfOk, IfSome, map, option_map, string_bytes, vec_len};
-ghost use Rattle.std.specs.List.{Any, HoldsAt};
+ghost use Rattle.std.specs.Prelude.{◌≡◌, ◌≢◌, ◌<◌, ◌⊎◌, [], IfOk, IfSome, map, option_map, string_bytes, vec_len};
+ghost use Rattle.std.specs.List.{HoldsAt};
 ghost use Rattle.std.specs.declared.cmp.Ordering.TheVariants.{Less};
 ghost use Rattle.zot_outside.specs.Listing.{FindsAbove, IsFileAbove};
 ghost use Rattle.zot_outside.specs.declared.stores.listing.Listing.{Listing};
 ghost use Rattle.zot_outside.specs.Objects.{path_cmp};
+ghost use Rattle.zot_outside.specs.Steps.{OnEnd};
 
 use crate::stores::listing::Listing;
 use crate::stores::root::Root;
-use crate::stores::spot::{Found, Spot};
+use crate::stores::spot::{Spot, Step};
 use std::alloc::{AllocError, Global};
 use std::fs::Files;
 use std::io;
@@ -39,67 +40,27 @@ impl Walk {
         self.listings.clear();
     }
 
-    /// The least path of a file below a root that is greater than the path `after`.
-    pub fn next<R: Files + AllocGlobal + Clone + Drop>(
-        &mut self,
-        root: &Root<R>,
-        after: &str,
-    ) -> io::Result<Option<String>>
-        ensures { IfOk result (λ found. IfSome found (λ path. IsFileAbove after.now (string_bytes path))) }
+    // Where the search for the path after one begins. What was read is forgotten, unless the walk goes on from the path that it found last.
+    fn begin(&mut self, alloc: Global, after: &str) -> Result<Spot, AllocError>
+        ensures { IfOk result (λ spot. string_bytes spot.bound ≡ after.now) }
     {
         if self.last.as_str() != after {
             self.forget();
         }
-        let found = self.find(root, after)?;
-        if let Some(path) = &found {
-            self.last = String::from_str(root.alloc, path.as_str())?;
-        }
-        Ok(found)
+        Spot::at(alloc, after)
     }
 
-    // The same. It looks in the folder that the path lies in, then in the folders above, and goes down into each folder that comes next.
-    fn find<R: Files + AllocGlobal + Clone + Drop>(
-        &mut self,
-        root: &Root<R>,
-        after: &str,
-    ) -> io::Result<Option<String>>
-        ensures { IfOk result (λ found. IfSome found (λ path. IsFileAbove after.now (string_bytes path))) }
+    // Takes a step from a spot, by the listing of its folder. Where no listing of it is held, there is no step.
+    fn step(&mut self, alloc: Global, spot: &mut Spot) -> Result<Step, AllocError>
+        ensures end { IfOk result (λ step. OnEnd step (λ found. IfSome found (λ path. IsFileAbove (string_bytes spot.old.bound) path))) }
+        ensures bound { IfOk result (λ _. (string_bytes spot.new.bound ≡ string_bytes spot.old.bound) ⊎ (path_cmp (string_bytes spot.old.bound) (string_bytes spot.new.bound) ≡ Less)) }
     {
-        let mut spot = Spot::at(root.alloc, after)?;
-        for _ in 0..u64::MAX {
-            let least = self.least(root, &spot)?;
-            if let Found::End(found) = spot.follow(root.alloc, least)? {
-                return Ok(found);
+        match self.held(spot.folder()) {
+            Some(at) => {
+                let least = self.least(alloc, at, spot.bound())?;
+                spot.follow(alloc, least)
             }
-        }
-        Err(io::Error::from(ErrorKind::Other))
-    }
-
-    // The least path in the folder of a spot that is greater than its bound, by the folder's listing.
-    fn least<R: Files + AllocGlobal + Clone + Drop>(
-        &mut self,
-        root: &Root<R>,
-        spot: &Spot,
-    ) -> io::Result<Option<String>>
-        ensures above { IfOk result (λ found. IfSome found (λ path. path_cmp (string_bytes spot.now.bound) (string_bytes path) ≡ Less)) }
-        ensures least { IfOk result (λ found. Any (λ (listing : Listing). (string_bytes listing.folder ≡ string_bytes spot.now.folder) × FindsAbove (map string_bytes listing.paths.items) (string_bytes spot.now.bound) (option_map string_bytes found)) self.new.listings.items) }
-    {
-        let at = self.listed(root, spot.folder())?;
-        Ok(self.listings[at].copy_above(root.alloc, spot.bound())?)
-    }
-
-    // Where the listing of a folder stands. It is read if it isn't held.
-    fn listed<R: Files + AllocGlobal + Clone + Drop>(
-        &mut self,
-        root: &Root<R>,
-        folder: &str,
-    ) -> io::Result<usize>
-        ensures within { IfOk result (λ at. at < vec_len self.new.listings) }
-        ensures folder { IfOk result (λ at. HoldsAt (λ (listing : Listing). string_bytes listing.folder ≡ folder.now) self.new.listings.items at) }
-    {
-        match self.held(folder) {
-            Some(at) => Ok(at),
-            None => Ok(self.add(Listing::read(root, folder)?)?),
+            None => Ok(Step::Unread),
         }
     }
 
@@ -118,13 +79,47 @@ impl Walk {
         held
     }
 
-    // Adds a listing, and answers where it stands.
-    fn add(&mut self, listing: Listing) -> Result<usize, AllocError>
-        ensures within { IfOk result (λ at. at < vec_len self.new.listings) }
-        ensures listing { IfOk result (λ at. HoldsAt (λ (other : Listing). other ≡ listing) self.new.listings.items at) }
+    // A copy of the least path in a listing that is greater than a bound.
+    fn least(&self, alloc: Global, at: usize, bound: &str) -> Result<Option<String>, AllocError>
+        requires { at < vec_len self.now.listings }
+        ensures above { IfOk result (λ found. IfSome found (λ path. path_cmp bound.now (string_bytes path) ≡ Less)) }
+        ensures least { IfOk result (λ found. HoldsAt (λ (listing : Listing). FindsAbove (map string_bytes listing.paths.items) bound.now (option_map string_bytes found)) self.now.listings.items at) }
     {
-        let at = self.listings.len();
-        self.listings.push(listing)?;
-        Ok(at)
+        self.listings[at].copy_above(alloc, bound)
     }
+
+    // Adds a listing.
+    fn add(&mut self, listing: Listing) -> Result<(), AllocError> {
+        Ok(self.listings.push(listing)?)
+    }
+
+    // Keeps the path that was found last.
+    fn remember(&mut self, alloc: Global, found: &Option<String>) -> Result<(), AllocError> {
+        if let Some(path) = found {
+            self.last = String::from_str(alloc, path.as_str())?;
+        }
+        Ok(())
+    }
+}
+
+/// The least path of a file below a root that is greater than the path `after`.
+pub fn next_file<R: Files + AllocGlobal + Clone + Drop>(
+    walk: &mut Walk,
+    root: &Root<R>,
+    after: &str,
+) -> io::Result<Option<String>>
+    ensures { IfOk result (λ found. IfSome found (λ path. IsFileAbove after.now (string_bytes path))) }
+{
+    let mut spot = walk.begin(root.alloc, after)?;
+    for _ in 0..u64::MAX {
+        match walk.step(root.alloc, &mut spot)? {
+            Step::Unread => walk.add(Listing::read(root, spot.folder())?)?,
+            Step::Folder => {}
+            Step::End(found) => {
+                walk.remember(root.alloc, &found)?;
+                return Ok(found);
+            }
+        }
+    }
+    Err(io::Error::from(ErrorKind::Other))
 }
