@@ -30,7 +30,7 @@ use Rattle.zot_spell.specs.Spelling.{all_fields, byte_media, json_media, parts_o
 use Rattle.zot_spell.proofs.CutLemmas.{cut_front, free_append, free_cons, same_ended}
 use Rattle.zot_spell.proofs.SplitLemmas.{line_at, line_first, line_free}
 use Rattle.zot_reply.proofs.MediaTextLemmas.{media_free}
-use Rattle.zot_reply.proofs.PageLemmas.{tag_free_of_cr}
+use Rattle.zot_reply.proofs.PageLemmas.{tag_free}
 use Rattle.zot_reply.proofs.ReadingLemmas.{decimal_free}
 
 -- ---- texts without CR
@@ -128,7 +128,7 @@ link_free name n tag f is =
     let b = free_append 13 (codes "/v2/" ++ name) (codes "/tags/list?n=") a (free_by_test 13 (codes "/tags/list?n=") refl) in
     let c = free_append 13 (codes "/v2/" ++ name ++ codes "/tags/list?n=") (decimal n) b (number_free n) in
     let d = free_append 13 (codes "/v2/" ++ name ++ codes "/tags/list?n=" ++ decimal n) (codes "&last=") c (free_by_test 13 (codes "&last=") refl) in
-    let e = free_append 13 (codes "/v2/" ++ name ++ codes "/tags/list?n=" ++ decimal n ++ codes "&last=") tag d (tag_free_of_cr tag is) in
+    let e = free_append 13 (codes "/v2/" ++ name ++ codes "/tags/list?n=" ++ decimal n ++ codes "&last=") tag d (tag_free 13 tag refl is) in
     let g = free_append 13 (codes "<") (codes "/v2/" ++ name ++ codes "/tags/list?n=" ++ decimal n ++ codes "&last=" ++ tag) (free_by_test 13 (codes "<") refl) e in
     free_append 13 (codes "<" ++ (codes "/v2/" ++ name ++ codes "/tags/list?n=" ++ decimal n ++ codes "&last=" ++ tag)) (codes ">; rel=\"next\"") g (free_by_test 13 (codes ">; rel=\"next\"") refl)
 

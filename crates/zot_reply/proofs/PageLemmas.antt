@@ -4,7 +4,7 @@ use Rattle.std.specs.Prelude.{Err, IfOk, IsUtf8, Ok, Option, Result, Some, codes
 use Rattle.std.specs.Borrow.{Bor}
 use Rattle.std.specs.Fmt.{decimal}
 use Rattle.std.specs.List.{AllByRecursion, AllPass}
-use Rattle.std.proofs.lemmas.Bool.{cases_lt}
+use Rattle.std.proofs.lemmas.Bool.{cases_lt, eqb-true}
 use Rattle.std.proofs.lemmas.Bool.Decides.{nat_tests}
 use Rattle.std.proofs.lemmas.List.{append_assoc, get_or_past}
 use Rattle.std.proofs.lemmas.Str.{IsUtf8-from_ascii}
@@ -33,23 +33,16 @@ low c h = grind (arith, nat_tests)
 no_slash : (c : ℕ) → is_tag_byte c ≡ true → c ≢ 92
 no_slash c h = grind (arith, nat_tests)
 
-no_quote : (c : ℕ) → is_tag_byte c ≡ true → (c == 34) ≡ false
-no_quote c h = grind (arith, nat_tests)
+not_true : (t : Bool) → (t ≡ true → ⊥) → t ≡ false
+not_true true h = absurd (h refl)
+not_true false h = refl
 
-no_end : (c : ℕ) → is_tag_byte c ≡ true → (c == 62) ≡ false
-no_end c h = grind (arith, nat_tests)
+differs : (end c : ℕ) → is_tag_byte end ≡ false → is_tag_byte c ≡ true → (c == end) ≡ false
+differs end c isnt is = not_true (c == end) (λ e. let same : is_tag_byte c ≡ is_tag_byte end = ap is_tag_byte (eqb-true c end e) in cc (isnt, is, same))
 
-no_cr : (c : ℕ) → is_tag_byte c ≡ true → (c == 13) ≡ false
-no_cr c h = grind (arith, nat_tests)
-
-pub tag_free_of_quote : (tag : List ℕ) → IsTag tag → IsFree 34 tag
-tag_free_of_quote tag is = λ k lt. no_quote (slice_index tag k) (tag_bytes tag is k 0 lt)
-
-pub tag_free_of_end : (tag : List ℕ) → IsTag tag → IsFree 62 tag
-tag_free_of_end tag is = λ k lt. no_end (slice_index tag k) (tag_bytes tag is k 0 lt)
-
-pub tag_free_of_cr : (tag : List ℕ) → IsTag tag → IsFree 13 tag
-tag_free_of_cr tag is = λ k lt. no_cr (slice_index tag k) (tag_bytes tag is k 0 lt)
+-- no tag has a byte that isn't one of tags
+pub tag_free : (end : ℕ) (tag : List ℕ) → is_tag_byte end ≡ false → IsTag tag → IsFree end tag
+tag_free end tag isnt is = λ k lt. differs end (slice_index tag k) isnt (tag_bytes tag is k 0 lt)
 
 tag_ascii : (tag : List ℕ) → IsTag tag → (i : ℕ) → slice_index tag i < 128
 tag_ascii tag is i =
@@ -122,7 +115,7 @@ same_tags false (t ∷ a) [] x y e = let first : 34 ≡ 93 = ap (λ (l : List �
 same_tags later (t ∷ a) (u ∷ b) x y e =
     let quote = cut_front (comma_if later) (34 ∷ (t ++ (34 ∷ tags_text true a))) (34 ∷ (u ++ (34 ∷ tags_text true b))) e in
     let rest : t ++ (34 ∷ tags_text true a) ≡ u ++ (34 ∷ tags_text true b) = cc quote in
-    let s = same_ended 34 t u (tags_text true a) (tags_text true b) (tag_free_of_quote t x.0) (tag_free_of_quote u y.0) rest in
+    let s = same_ended 34 t u (tags_text true a) (tags_text true b) (tag_free 34 t refl x.0) (tag_free 34 u refl y.0) rest in
     ap₂ (λ (h : List ℕ) (r : List (List ℕ)). h ∷ r) s.0 (same_tags true a b x.1 y.1 s.1)
 
 pub same_pages : (name : List ℕ) (a b : List (List ℕ)) → AllByRecursion IsTag a → AllByRecursion IsTag b → page_body name a ≡ page_body name b → a ≡ b

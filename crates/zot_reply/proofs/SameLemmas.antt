@@ -29,7 +29,7 @@ use Rattle.zot_spell.specs.Spelling.{all_fields, head_of, head_text, json_media,
 use Rattle.zot_spell.proofs.CutLemmas.{cut_front, free_append, free_cons, same_ended}
 use Rattle.zot_spell.proofs.SplitLemmas.{digits_at, same_digits}
 use Rattle.zot_reply.proofs.FieldLemmas.{all_are, digest_free, free_by_test, free_nil, json_free, number_free, rest_are, same_fields, same_placed, upload_free}
-use Rattle.zot_reply.proofs.PageLemmas.{link_front, link_is, same_pages, tag_free_of_cr, tag_free_of_end}
+use Rattle.zot_reply.proofs.PageLemmas.{link_front, link_is, same_pages, tag_free}
 use Rattle.zot_reply.proofs.ReadingLemmas.{decimal_free}
 use Rattle.zot_reply.specs.Pages.{link_rest}
 use Rattle.zot_reply.proofs.ValueLemmas.{fields_of, says}
@@ -234,7 +234,7 @@ page_rest size close = type_fields (Some json_media) ++ (length_fields 200 size 
 
 link_rest_free : (n : ℕ) (tag : List ℕ) → IsTag tag → IsFree 13 (link_rest n tag)
 link_rest_free n tag is =
-    let end = free_append 13 tag (62 ∷ codes "; rel=\"next\"") (tag_free_of_cr tag is) (free_by_test 13 (62 ∷ codes "; rel=\"next\"") refl) in
+    let end = free_append 13 tag (62 ∷ codes "; rel=\"next\"") (tag_free 13 tag refl is) (free_by_test 13 (62 ∷ codes "; rel=\"next\"") refl) in
     let last = free_append 13 (codes "last") (61 ∷ (tag ++ (62 ∷ codes "; rel=\"next\""))) (free_by_test 13 (codes "last") refl) (free_cons 13 61 (tag ++ (62 ∷ codes "; rel=\"next\"")) refl end) in
     free_append 13 (decimal n) (38 ∷ (codes "last" ++ (61 ∷ (tag ++ (62 ∷ codes "; rel=\"next\""))))) (number_free n) (free_cons 13 38 (codes "last" ++ (61 ∷ (tag ++ (62 ∷ codes "; rel=\"next\"")))) refl last)
 
@@ -244,7 +244,7 @@ same_link n m t u x y p q e =
     let end : List ℕ = codes "; rel=\"next\"" in
     let number = same_ended 38 (decimal n) (decimal m) (codes "last" ++ (61 ∷ (t ++ (62 ∷ end)))) (codes "last" ++ (61 ∷ (u ++ (62 ∷ end)))) (decimal_free 38 n (omega arith)) (decimal_free 38 m (omega arith)) e in
     let last = cut_front (codes "last=") (t ++ (62 ∷ end)) (u ++ (62 ∷ end)) number.1 in
-    ((same_ended 62 t u end end (tag_free_of_end t p) (tag_free_of_end u q) last).0, decimal_injective n m x y number.0)
+    ((same_ended 62 t u end end (tag_free 62 t refl p) (tag_free 62 u refl q) last).0, decimal_injective n m x y number.0)
 
 -- a page after which none follows has no field of its own
 last_are : (name : List ℕ) (tags : List (List ℕ)) (n : ℕ) (close : Bool) → AreFields (fields_of name (replies.Tags tags None n) close)

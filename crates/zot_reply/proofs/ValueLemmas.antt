@@ -140,9 +140,6 @@ no_link_found name value is None m real word e = tt
 
 -- ---- kinds of replies
 
-pub covers_as : (K L : Reply → Type 0) (head : Bool) (name : List ℕ) (seen : Seen) (found : Reply) → ((reply : Reply) → L reply → K reply) → Covers K head name seen found → Covers L head name seen found
-covers_as K L head name seen found to h = λ reply kind real is. h reply (to reply kind) real is
-
 pub of_upload : (id : Option ℕ) (status : ℕ) → (status ≡ 202) ⊎ (status ≡ 204) → (reply : Reply) → IsOfUpload id (IsSession status) reply → IsUpload reply
 of_upload None status s reply h = absurd h
 of_upload (Some id) status s (replies.Session i n t) h = subst (λ (r : ℕ). (r ≡ 202) ⊎ (r ≡ 204)) (sym h) s

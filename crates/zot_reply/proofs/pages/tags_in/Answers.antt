@@ -1,6 +1,6 @@
 use Rattle.std.proofs.Common.{List, ℕ, sym, subst}
 use Rattle.zot_spell.proofs.CutLemmas.{matched, unmatched}
-use Rattle.zot_reply.proofs.PageLemmas.{IsFirst, AreLeft, left_more, left_none}
+use Rattle.zot_reply.proofs.PageLemmas.{AreLeft, IsFirst, left_more, left_none}
 use Rattle.zot_reply.proofs.pages.tags_in.Goals as goal
 
 pub loop-tags-preserved : goal.loop-tags-preserved
