@@ -1,37 +1,36 @@
 //! Cases of whole connections through the program's commands: the status, the note and what is written.
+//!
+//! A case as `half-a-line-end: pipe 3 \r => 4 [zotd: torn 1\n]` runs `pipe` over an input in memory.
 #![tactic(auto)]
 
 mod faults;
 mod running;
 mod tables;
-mod wire;
 
-use anyhow::bail;
-use std::alloc::Global;
 use std::io;
 use std::process::ExitCode;
-use zot_cases::{Case, run};
+use zot_cases::{Answer, Case, run};
 use zot_session::{end_is_one, requests_are_read};
 
-// What the call of a case answers.
-fn answer(alloc: Global, case: &Case) -> anyhow::Result<String> {
+// Makes the call of a case.
+fn call(case: &Case, answer: &mut Answer) {
+    let given = case.given;
     match case.call {
-        "pipe" => running::pipe(alloc, case.given),
-        "long-head" => running::long_head(alloc, case.given),
-        "words" => running::words(alloc, case.given),
-        "unread" => running::unread(alloc, case.given),
-        "cut" => faults::cut(alloc, case.given),
-        "failing-reads" => faults::failing_reads(alloc, case.given),
-        "failing-writes" => faults::failing_writes(alloc, case.given),
-        "failing-notes" => faults::failing_notes(alloc, case.given),
-        "moments" => tables::moments(alloc, case.given),
-        "connections" => tables::connections(alloc, case.given),
-        other => bail!("no call {other}"),
+        "pipe" => running::pipe(answer, given),
+        "words" => running::words(answer, given),
+        "arguments" => running::arguments(answer, given),
+        "cut" => faults::cut_off(answer, given),
+        "failing-reads" => faults::failing(answer, given, false),
+        "failing-writes" => faults::failing(answer, given, true),
+        "failing-notes" => faults::failing_notes(answer, given),
+        "moments" => tables::moments(answer, given),
+        "connections" => tables::connections(answer, given),
+        _ => answer.fail("no such call"),
     }
 }
 
 fn main(rt: HostRuntime) -> io::Result<ExitCode> {
     end_is_one();
     requests_are_read();
-    run(&rt, |case| answer(rt.alloc(), case))
+    run(&rt, call)
 }

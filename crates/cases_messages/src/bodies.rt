@@ -1,129 +1,102 @@
 //! Bodies in chunks.
-ghost use Rattle.std.specs.Prelude.{◌≤◌, length};
+ghost use Rattle.std.specs.Prelude.{◌<◌};
 
-use crate::bytes::{bytes_of, is_cut};
-use std::alloc::Global;
-use zot_cases::{Trouble, confirm, escape};
+use crate::heads::is_cut;
+use std::alloc::AllocError;
+use zot_cases::Answer;
 use zot_head::{ChunkError, Chunks, Fed};
 
 /// The most bytes of a body here.
 const LIMIT: u64 = 10;
 
-/// From how many bytes on it is known how a body ends, and how: where its bytes come one by one, and where they are cut
-/// in two anywhere.
-pub fn body(alloc: Global, given: &str) -> Result<String, Trouble> {
-    let bytes = bytes_of(alloc, given)?;
-    let bytes = bytes.as_slice();
-    let mut chunks = Chunks::new(LIMIT);
-    let mut out = Vec::new(alloc);
-    let mut ending = Ending {
-        at: usize::MAX,
-        refusal: None,
-    };
-    for i in 0..bytes.len() {
-        let fed = chunks.feed(&bytes[i..i + 1], &mut out);
-        if ending.at > i {
-            ending = Ending::of(fed, i + 1, ending);
-        }
-        confirm(
-            fed == ending.answered(i, i + 1),
-            "read otherwise, byte by byte",
-        )?;
-    }
-    for cut in 0..bytes.len() {
-        if is_cut(cut, bytes.len()) {
-            cut_in_two(alloc, bytes, cut, &ending, out.as_slice())?;
+/// From how many bytes on it is known how a body ends, why it is refused, and its bytes, which are the same in pieces of
+/// each size.
+pub fn body(answer: &mut Answer, bytes: &[u8]) {
+    let end = end_of(answer, bytes);
+    let whole = body_of(answer, bytes, 1, end);
+    for size in 2..bytes.len() + 1 {
+        if is_cut(size, bytes.len()) {
+            let body = body_of(answer, bytes, size, end);
+            answer.confirm(body == whole, "another body");
         }
     }
-    let text = escape(alloc, out.as_slice())?;
-    Ok(format!(in alloc; "{} at {} [{}]", ending.name(), ending.at, text.as_str())?)
+    answer.show(&(end.at, end.refusal));
+    answer.write(whole.as_slice());
 }
 
 // From how many bytes on it is known how a body ends, and why it is refused, if it is.
 #[derive(Clone, Copy)]
-struct Ending {
+struct End {
     at: usize,
     refusal: Option<ChunkError>,
 }
 
-impl Ending {
-    // How it ends, where it does with this answer, at so many bytes.
-    fn of(fed: Result<Fed, ChunkError>, at: usize, before: Ending) -> Ending {
-        match fed {
-            Ok(fed) if !fed.done => before,
-            Ok(_) => Ending { at, refusal: None },
-            Err(error) => Ending {
-                at,
-                refusal: Some(error),
-            },
+// How a body ends whose bytes come one by one.
+fn end_of(answer: &Answer, bytes: &[u8]) -> End {
+    let mut chunks = Chunks::new(LIMIT);
+    let mut body = Vec::new(answer.alloc());
+    let mut at = 0usize;
+    for byte in bytes {
+        at = at.saturating_add(1);
+        match chunks.feed(&[*byte], &mut body) {
+            Ok(Fed { done: false, .. }) => {}
+            fed => {
+                return End {
+                    at,
+                    refusal: fed.err(),
+                };
+            }
         }
     }
-
-    // What is to be answered to the bytes from one place to another.
-    fn answered(self, from: usize, to: usize) -> Result<Fed, ChunkError> {
-        if to < self.at {
-            return Ok(Fed {
-                taken: to.saturating_sub(from),
-                done: false,
-            });
-        }
-        match self.refusal {
-            Some(error) => Err(error),
-            None => Ok(Fed {
-                taken: self.at.saturating_sub(from),
-                done: true,
-            }),
-        }
-    }
-
-    fn name(self) -> &'static str {
-        match self.refusal {
-            None => "whole",
-            Some(ChunkError::Bad) => "bad",
-            Some(ChunkError::TooLong) => "too long",
-            Some(ChunkError::TooLarge) => "too large",
-            Some(ChunkError::NoMemory) => "no memory",
-        }
+    End {
+        at: usize::MAX,
+        refusal: None,
     }
 }
 
-// Confirms that bytes cut in two there are read as their ending says, and give these.
-fn cut_in_two(
-    alloc: Global,
-    bytes: &[u8],
-    cut: usize,
-    ending: &Ending,
-    want: &[u8],
-) -> Result<(), Trouble>
-    requires { cut ≤ length bytes.now }
+// The body of bytes that come in pieces of a size, of which each is answered as the end says.
+fn body_of(answer: &mut Answer, bytes: &[u8], size: usize, end: End) -> Vec<u8>
+    requires { 0 < size }
 {
     let mut chunks = Chunks::new(LIMIT);
-    let mut out = Vec::new(alloc);
-    let first = chunks.feed(&bytes[..cut], &mut out);
-    confirm(
-        first == ending.answered(0, cut),
-        "read otherwise before a cut",
-    )?;
-    let second = chunks.feed(&bytes[cut..], &mut out);
-    confirm(
-        second == ending.answered(cut, bytes.len()),
-        "read otherwise after a cut",
-    )?;
-    confirm(out.as_slice() == want, "other bytes where it is cut")
+    let mut body = Vec::new(answer.alloc());
+    let mut from = 0usize;
+    for piece in bytes.chunks(size) {
+        let to = from.saturating_add(piece.len());
+        let fed = chunks.feed(piece, &mut body);
+        answer.confirm(fed == answered(end, from, to), "read otherwise");
+        from = to;
+    }
+    body
 }
 
-/// How many bytes of three pieces belong to a body of at most 3 bytes, and the body. Nothing is given.
-pub fn pieces(alloc: Global) -> Result<String, Trouble> {
+// What is answered to the bytes from one place to another.
+fn answered(end: End, from: usize, to: usize) -> Result<Fed, ChunkError> {
+    match end.refusal {
+        Some(error) if to >= end.at => Err(error),
+        _ => Ok(Fed {
+            taken: to.min(end.at).saturating_sub(from),
+            done: to >= end.at,
+        }),
+    }
+}
+
+/// How many bytes of three pieces belong to a body of at most 3 bytes, and the body.
+pub fn pieces(answer: &mut Answer) {
+    let fed = feed_pieces(answer);
+    answer.keep(fed, ());
+}
+
+// Adds what three pieces give.
+fn feed_pieces(answer: &mut Answer) -> Result<(), AllocError> {
+    let alloc = answer.alloc();
     let pieces = [
         Vec::from_slice(alloc, b"3\r")?,
         Vec::from_slice(alloc, b"\nab")?,
         Vec::from_slice(alloc, b"c\r\n0\r\n\r\nGET")?,
     ];
-    let mut out = Vec::new(alloc);
-    let Ok(fed) = Chunks::new(3).feed_all(&pieces, &mut out) else {
-        return Err(Trouble::Wrong("refused"));
-    };
-    confirm(fed.done, "not whole")?;
-    let text = escape(alloc, out.as_slice())?;
-    Ok(format!(in alloc; "{} taken [{}]", fed.taken, text.as_str())?)
+    let mut body = Vec::new(alloc);
+    answer.show(&Chunks::new(3).feed_all(&pieces, &mut body));
+    answer.write(body.as_slice());
+    Ok(())
 }

@@ -1,40 +1,24 @@
-//! Paths and queries of targets.
-use std::alloc::Global;
-use zot_cases::{Trouble, escape};
-use zot_route::{Form, Path, Target};
+//! Paths of targets.
+use zot_cases::Answer;
+use zot_route::{Path, Target};
 
 /// The form of a target's path, the segments of its name with a bar after each, and its text.
-pub fn path(alloc: Global, given: &str) -> Result<String, Trouble> {
-    let Some(list) = Target::read(given).segments(alloc)? else {
-        return Ok(String::from_str(alloc, "no text")?);
+pub fn path(answer: &mut Answer, target: &str) {
+    let segments = Target::read(target)
+        .segments(answer.alloc())
+        .unwrap_or(None);
+    let Some(segments) = segments else {
+        return answer.say("no text");
     };
-    let Some(path) = Path::read(list.as_slice()) else {
-        return Ok(String::from_str(alloc, "none")?);
+    let Some(path) = Path::read(segments.as_slice()) else {
+        return answer.say("none");
     };
-    let mut text = String::from_str(alloc, form_name(path.form()))?;
-    text.push_str(";")?;
+    answer.show(&path.form());
+    answer.say(";");
     for segment in path.name() {
-        text.push_str(segment.as_str())?;
-        text.push_str("|")?;
+        answer.say(segment.as_str());
+        answer.say("|");
     }
-    text.push_str(";")?;
-    text.push_str(path.text())?;
-    Ok(text)
-}
-
-/// The query of a target.
-pub fn query_of(alloc: Global, given: &str) -> Result<String, Trouble> {
-    Ok(escape(alloc, Target::read(given).query())?)
-}
-
-fn form_name(form: Form) -> &'static str {
-    match form {
-        Form::Base => "Base",
-        Form::Tags => "Tags",
-        Form::Referrers => "Referrers",
-        Form::Manifest => "Manifest",
-        Form::Uploads => "Uploads",
-        Form::Upload => "Upload",
-        Form::Blob => "Blob",
-    }
+    answer.say(";");
+    answer.say(path.text());
 }

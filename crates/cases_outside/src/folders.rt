@@ -1,46 +1,88 @@
 //! Stores over folders of the system.
-use crate::scripts::{add, answer};
-use anyhow::Context;
+use crate::scripts::make;
+use std::alloc::Global;
 use std::fs;
-use zot_cases::Case;
-use zot_outside::FolderStore;
+use zot_cases::{Answer, Case, number, word};
+use zot_fakes::SteadyStore;
+use zot_outside::{FolderStore, Store};
 
-/// The answers of a store over the folder `root` in a new folder of the case's own to a script. Besides calls of the store a step may be `folder PATH`, `file PATH TEXT` or `shows PATH`, which make and read what lies under the case's folder without the store.
-pub fn folder(rt: HostRuntime, case: &Case) -> anyhow::Result<String> {
-    let alloc = rt.alloc();
-    let mut store = new_store(rt, case.name)?;
-    let mut all = String::new(alloc);
+// The calls of the sequence, of which two in eight are `append`.
+const CALLS: [&str; 8] = [
+    "put", "append", "append", "copy", "delete", "size", "read", "next",
+];
+
+// Paths that one folder can keep side by side.
+const PATHS: [&str; 8] = ["a-b", "a.b", "a/b", "a/b-", "a/c/d", "a/c/e", "a0", "b/a"];
+
+/// The answers to a script of a store over the folder `root` in a new folder of the case's own. Besides calls of the store
+/// a step may be `folder PATH`, `file PATH` or `shows PATH`, which make and read what lies in the case's folder without
+/// the store.
+pub fn folder(rt: HostRuntime, case: &Case, answer: &mut Answer) {
+    let Some(mut store) = new_store(rt, case.name) else {
+        return answer.fail("no folder");
+    };
     for step in case.given.split("; ") {
-        let came = match step.split_once(' ') {
-            Some(("folder", path)) => {
-                fs::create_dir_all(&rt, place(rt, case, path)?.as_str())?;
-                String::new(alloc)
-            }
-            Some(("file", rest)) => {
-                let (path, text) = rest.split_once(' ').context("no text")?;
-                fs::write(&rt, place(rt, case, path)?.as_str(), text)?;
-                String::new(alloc)
-            }
-            Some(("shows", path)) => fs::read_to_string(&rt, place(rt, case, path)?.as_str())?,
-            _ => answer(alloc, &mut store, step)?,
-        };
-        add(&mut all, came.as_str())?;
+        answer.begin();
+        let place = format!(in rt.alloc(); "{}/{}", case.name, word(step, 1));
+        let place = place.unwrap_or(String::new(rt.alloc()));
+        let place = place.as_str();
+        match word(step, 0) {
+            "folder" => answer.show(&fs::create_dir_all(&rt, place).is_ok()),
+            "file" => answer.show(&fs::write(&rt, place, "no object").is_ok()),
+            "shows" => answer.give(fs::read_to_string(&rt, place)),
+            _ => make(answer, &mut store, step, 2),
+        }
     }
-    fs::remove_dir_all(&rt, case.name)?;
-    Ok(all)
+    answer.confirm(
+        fs::remove_dir_all(&rt, case.name).is_ok(),
+        "the folder stays",
+    );
 }
 
-/// A store over the folder `root` in a new folder of this name.
-pub fn new_store(rt: HostRuntime, name: &str) -> anyhow::Result<FolderStore<HostRuntime>> {
-    if fs::exists(&rt, name)? {
-        fs::remove_dir_all(&rt, name)?;
+/// How many calls of a sequence, as many as are given, a folder and a store in memory answer alike.
+pub fn alike(rt: HostRuntime, case: &Case, answer: &mut Answer) {
+    let Some(mut folder) = new_store(rt, case.name) else {
+        return answer.fail("no folder");
+    };
+    let mut memory = SteadyStore::new(rt.alloc());
+    let mut state = 1u64;
+    let mut same = 0u64;
+    for _ in 0..number(case.given) {
+        state = state
+            .wrapping_mul(6_364_136_223_846_793_005)
+            .wrapping_add(1);
+        if answer_alike(rt.alloc(), &mut folder, &mut memory, state >> 33) {
+            same = same.saturating_add(1);
+        }
     }
-    fs::create_dir_all(&rt, name)?;
-    let root = format!(in rt.alloc(); "{name}/root")?;
-    Ok(FolderStore::new(rt, rt.alloc(), root.as_str())?)
+    answer.show(&same);
+    answer.confirm(
+        fs::remove_dir_all(&rt, case.name).is_ok(),
+        "the folder stays",
+    );
 }
 
-// Where a path lies in the case's folder.
-fn place(rt: HostRuntime, case: &Case, path: &str) -> anyhow::Result<String> {
-    Ok(format!(in rt.alloc(); "{}/{path}", case.name)?)
+// Whether two stores answer the call of a number alike.
+fn answer_alike<S: Store, T: Store>(alloc: Global, one: &mut S, other: &mut T, n: u64) -> bool {
+    let call = CALLS[(n % 8) as usize];
+    let path = PATHS[(n / 8 % 8) as usize];
+    let more = PATHS[(n / 64 % 8) as usize];
+    let Ok(step) = format!(in alloc; "{call} {path} {more}") else {
+        return false;
+    };
+    let mut first = Answer::new(alloc);
+    make(&mut first, one, step.as_str(), n / 64 % 16);
+    let mut second = Answer::new(alloc);
+    make(&mut second, other, step.as_str(), n / 64 % 16);
+    first.as_str() == second.as_str()
+}
+
+// A store over the folder `root` in a new folder of this name.
+fn new_store(rt: HostRuntime, name: &str) -> Option<FolderStore<HostRuntime>> {
+    if fs::exists(&rt, name).ok()? {
+        fs::remove_dir_all(&rt, name).ok()?;
+    }
+    fs::create_dir_all(&rt, name).ok()?;
+    let root = format!(in rt.alloc(); "{name}/root").ok()?;
+    FolderStore::new(rt, rt.alloc(), root.as_str()).ok()
 }

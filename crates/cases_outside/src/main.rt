@@ -1,34 +1,53 @@
 //! Cases of the outside: stores over folders and in memory, sources, sinks and clocks.
+//!
+//! A case as `clock-stands: clock 7 => (7, 7)` makes calls on one value, one after another.
 #![tactic(auto)]
 
-mod alike;
 mod folders;
-mod laws;
 mod memory;
 mod scripts;
+mod streams;
 
-use anyhow::bail;
 use std::io;
 use std::process::ExitCode;
-use zot_cases::{Case, run};
+use zot_cases::{Answer, Case, run};
+use zot_fakes::{SteadyStore, empty_list_fails_none};
+use zot_outside::{
+    append_changes, change_is_one, copy_changes, delete_changes, listed_as_held, listing_ends,
+    next_lists, put_changes,
+};
 
-// What the call of a case answers.
-fn answer(rt: HostRuntime, case: &Case) -> anyhow::Result<String> {
-    let alloc = rt.alloc();
+// Makes the call of a case.
+fn call(rt: HostRuntime, case: &Case, answer: &mut Answer) {
+    let given = case.given;
     match case.call {
-        "alike" => alike::alike(rt, case),
-        "clock" => memory::clock(alloc, case.given),
-        "failing" => memory::failing(alloc, case.given),
-        "folder" => folders::folder(rt, case),
-        "laws" => laws::laws(alloc),
-        "memory" => memory::memory(alloc, case.given),
-        "sink" => memory::sink(alloc, case.given),
-        "source" => memory::source(alloc, case.given),
-        "steady" => memory::steady(alloc, case.given),
-        other => bail!("no call {other}"),
+        "alike" => folders::alike(rt, case, answer),
+        "folder" => folders::folder(rt, case, answer),
+        "memory" => scripts::answers(answer, &mut SteadyStore::new(rt.alloc()), given),
+        "failing" => memory::failing(answer, given),
+        "clock" => memory::clock(answer, given),
+        "source" => streams::source(answer, given),
+        "steady" => streams::steady(answer, given),
+        "sink" => streams::sink(answer, given),
+        "laws" => laws(answer),
+        _ => answer.fail("no such call"),
     }
 }
 
+// The laws that hold of all stores, each called once.
+fn laws(answer: &mut Answer) {
+    put_changes();
+    append_changes();
+    copy_changes();
+    delete_changes();
+    change_is_one();
+    next_lists();
+    listed_as_held();
+    listing_ends();
+    empty_list_fails_none();
+    answer.say("hold");
+}
+
 fn main(rt: HostRuntime) -> io::Result<ExitCode> {
-    run(&rt, |case| answer(rt, case))
+    run(&rt, |case, answer| call(rt, case, answer))
 }

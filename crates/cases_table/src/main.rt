@@ -1,25 +1,25 @@
 //! Cases of what a registry answers: the uploads of one repository, a table of repositories, and refusals.
+//!
+//! A case as `nothing-opened: uploads fresh; length 1 => true; None` makes calls on one value, one after another.
 #![tactic(auto)]
 
 mod refusals;
-mod scripts;
 mod table;
 mod uploads;
 
-use std::alloc::Global;
 use std::io;
 use std::process::ExitCode;
-use zot_cases::{Case, Trouble, run};
+use zot_cases::{Answer, Case, run};
 use zot_model::{answers_fit, common_refusals_fit, repositories_stand_alone};
 use zot_uploads::{few_are_open, one_answer, others_stay};
 
-// What the call of a case answers.
-fn answer(alloc: Global, case: &Case) -> Result<String, Trouble> {
+// Makes the call of a case.
+fn call(case: &Case, answer: &mut Answer) {
     match case.call {
-        "uploads" => uploads::uploads(alloc, case.given),
-        "table" => table::table(alloc, case.given),
-        "refusal" => refusals::refusal(alloc, case.given),
-        _ => Err(Trouble::Wrong("no such call")),
+        "uploads" => uploads::uploads(answer, case.given),
+        "table" => table::table(answer, case.given),
+        "refusal" => refusals::refusal(answer, case.given),
+        _ => answer.fail("no such call"),
     }
 }
 
@@ -31,5 +31,5 @@ fn main(rt: HostRuntime) -> io::Result<ExitCode> {
     one_answer();
     others_stay();
     few_are_open();
-    run(&rt, |case| answer(rt.alloc(), case))
+    run(&rt, call)
 }

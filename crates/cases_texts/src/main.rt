@@ -1,41 +1,43 @@
-//! Cases of texts: digests, owned lists, names, tags, ids, globs, media and documents.
+//! Cases of values: digests, owned lists, names, tags, ids, globs, media and documents.
+//!
+//! A case as `name-two-components: name a/b => a/b` makes the call `RepoName::read` and others that have to agree with it.
 #![tactic(auto)]
 
 mod digests;
-mod ids;
-mod lists;
 mod manifests;
 mod names;
-mod orders;
+mod readings;
+mod values;
 
-use std::alloc::Global;
 use std::io;
 use std::process::ExitCode;
-use zot_cases::{Case, Trouble, run};
+use zot_cases::{Answer, Case, run};
 use zot_digest::ordered_as_text;
-use zot_media::{only_texts_are_read, text_is_read};
+use zot_media::{annotations_ascend, only_texts_are_read, text_is_read};
 use zot_names::{bytes_of_names, bytes_of_tags, parts_of_names};
 
-// What the call of a case answers.
-fn answer(alloc: Global, case: &Case) -> Result<String, Trouble> {
+// Makes the call of a case.
+fn call(case: &Case, answer: &mut Answer) {
     let given = case.given;
     match case.call {
-        "digest" => digests::digest(alloc, given),
-        "digest_text" => digests::digest_text(alloc, given),
-        "first_byte" => digests::first_byte(alloc, given),
-        "number" => digests::number(alloc, given),
-        "bytes" => lists::bytes(alloc, given),
-        "words" => lists::words(alloc, given),
-        "name" => names::name(alloc, given),
-        "tag" => names::tag(alloc, given),
-        "tags" => names::tags(alloc, given),
-        "glob" => names::glob(alloc, given),
-        "id" => ids::id(alloc, given),
-        "id_text" => ids::id_text(alloc, given),
-        "media" => manifests::media(alloc, given),
-        "document" => manifests::document(alloc, given),
-        "reference" => manifests::reference(alloc, given),
-        call => orders::answer(alloc, call, given),
+        "digest" => digests::digest(answer, given),
+        "digest_text" => digests::text(answer, given),
+        "digest_parts" => digests::parts(answer, given),
+        "bytes" => values::bytes(answer, given),
+        "words" => values::words(answer, given),
+        "id" => values::id(answer, given),
+        "id_text" => values::id_text(answer, given),
+        "order" => values::order(answer, given),
+        "name" => names::name(answer, given),
+        "tag" => names::tag(answer, given),
+        "tags" => names::tags(answer, given),
+        "glob" => names::glob(answer, given),
+        "media" => manifests::media(answer, given),
+        "document" => manifests::document(answer, given),
+        "reference" => manifests::reference(answer, given),
+        "manifest" => readings::manifest(answer, given),
+        "descriptors" => readings::descriptors(answer, given),
+        _ => answer.fail("no such call"),
     }
 }
 
@@ -47,5 +49,6 @@ fn main(rt: HostRuntime) -> io::Result<ExitCode> {
     parts_of_names();
     text_is_read();
     only_texts_are_read();
-    run(&rt, |case| answer(rt.alloc(), case))
+    annotations_ascend();
+    run(&rt, call)
 }
