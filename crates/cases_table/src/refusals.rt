@@ -29,8 +29,8 @@ pub fn refusal(answer: &mut Answer, given: &str) {
         status,
         code,
         detail,
-    } = reply
+    } = &reply
     {
-        answer.show(&(status, detail, code.text(), code.message()));
+        answer.show(&(*status, *detail, code.text(), code.message()));
     }
 }
