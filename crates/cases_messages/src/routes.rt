@@ -46,6 +46,11 @@ fn routed(alloc: Global, message: &[u8]) -> Option<Routed> {
         return None;
     };
     let (head, body) = message.split_at(size);
+    routed_parts(alloc, head, body)
+}
+
+// What becomes of a message of this head and this body.
+fn routed_parts(alloc: Global, head: &[u8], body: &[u8]) -> Option<Routed> {
     let Ok(head) = read_head(alloc, head) else {
         return None;
     };

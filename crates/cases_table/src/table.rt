@@ -14,7 +14,7 @@ pub fn table(answer: &mut Answer, given: &str) {
         let (times, message) = step.split_once("* ").unwrap_or(("1", step));
         let message = answer.read(message);
         answer.begin();
-        match asked(answer.alloc(), message.as_slice()) {
+        match received(answer.alloc(), message.as_slice()) {
             Some(request) => ask(answer, &mut table, request, number(times)),
             None => answer.fail("no request"),
         }
@@ -22,11 +22,16 @@ pub fn table(answer: &mut Answer, given: &str) {
 }
 
 // The request of a message.
-fn asked(alloc: Global, message: &[u8]) -> Option<Request> {
+fn received(alloc: Global, message: &[u8]) -> Option<Request> {
     let Found::Head(size) = find_head(message) else {
         return None;
     };
     let (head, body) = message.split_at(size);
+    asked(alloc, head, body)
+}
+
+// The request that a head and a body ask.
+fn asked(alloc: Global, head: &[u8], body: &[u8]) -> Option<Request> {
     let Ok(head) = read_head(alloc, head) else {
         return None;
     };
