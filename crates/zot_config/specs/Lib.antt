@@ -1,0 +1,9 @@
+pub mod Address
+pub mod Settings
+pub mod Found
+pub mod Wrong
+pub mod Fields
+pub mod Object
+pub mod Forms
+pub mod Unknown
+pub mod Table
