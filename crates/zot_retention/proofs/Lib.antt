@@ -1,0 +1,5 @@
+pub mod KeptLemmas
+pub mod MarkLemmas
+pub mod PatternLemmas
+pub mod PlaceLemmas
+pub mod RankLemmas

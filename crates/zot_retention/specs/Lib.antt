@@ -1,0 +1,4 @@
+pub mod Patterns
+pub mod Policies
+pub mod Kept
+pub mod Ranks
