@@ -14,7 +14,7 @@ use std::process::ExitCode;
 use zot_cases::{Answer, Case, run};
 use zot_digest::ordered_as_text;
 use zot_media::{annotations_ascend, only_texts_are_read, text_is_read};
-use zot_names::{bytes_of_names, bytes_of_tags, parts_of_names};
+use zot_names::{bytes_of_names, bytes_of_tags, components_of_names};
 
 // Makes the call of a case.
 fn call(case: &Case, answer: &mut Answer) {
@@ -46,7 +46,7 @@ fn main(rt: HostRuntime) -> io::Result<ExitCode> {
     ordered_as_text();
     bytes_of_names();
     bytes_of_tags();
-    parts_of_names();
+    components_of_names();
     text_is_read();
     only_texts_are_read();
     annotations_ascend();

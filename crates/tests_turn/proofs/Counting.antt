@@ -172,7 +172,7 @@ pair_raised n m s p opening fits last stands all own =
     let legal = from_opening IsRaise s.home 0 last (seen s) opening stands in
     raised 0 last (seen s) legal (omega (arith, count, fits)) ∙ omega (arith, count)
 
--- where the one turn of 0 is behind turns of the other alone, and the one turn of the other is behind some, the turn of 0 comes first
+-- where the one turn of 0 is after turns of the other alone, and the one turn of the other is after some, the turn of 0 comes first
 module _ (given : ℕ) (apart : given ≢ 0) (a b : ℕ) where
   two_left : (h : List (ℕ × ℕ)) (last : ℕ) → Replays IsRaise 0 ((0, a) ∷ h) last → length h ≡ 1 → entries_of given h ≡ b ∷ [] → (a ≡ 1) × (b ≡ 2)
   two_left [] last legal count own = absurd (omega arith)
@@ -213,7 +213,7 @@ module _ (home : Home ℕ) (first kept given mine theirs both : Standing ℕ ℕ
       (a ∷ [], refl, turn_made IsRaise (a ∷ []) (λ v w. a ≡ w) kept mine raises)
       (b ∷ [], refl, look_apart (b ∷ []) awaits.0 given theirs (turn_made IsRaise (b ∷ []) (λ v w. b ≡ w) (record given { shown = awaits.0 }) theirs awaits.2))
 
-  -- a seat that waited for a turn took its own behind it
+  -- a seat that waited for a turn took its own after it
   pub awaited : home.opening ≡ Some 0 → (last : ℕ) → Stands IsRaise both.home (seen both) last → AllByRecursion (λ t. Contains (numbers both.mine) t.0) both.turns → HasOwn both.mine (seen both) → (a ≡ 1) × (b ≡ 2)
   awaited opening last stands all own =
       let k : ℕ = p.number in

@@ -25,7 +25,7 @@ pub record Object : Type 0 where
 abbrev pub seen : code.Object → Object
 seen o = record { value = option_map (λ v. view v.now) o.value; text = option_map (λ v. value_view v.now) o.text }
 
--- the value behind a reference
+-- the value that a reference refers to
 abbrev pub data_of : Option (Bor Value) → Option Data
 data_of value = option_map (λ v. view v.now) value
 

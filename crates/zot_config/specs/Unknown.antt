@@ -22,7 +22,7 @@ abbrev pub first_unknown : List Field → Members → Option (List ℕ × Data)
 first_unknown known no_members = None
 first_unknown known (member name d rest) = if is_known known name then first_unknown known rest else Some (name, d)
 
--- the same as a wrong field, behind the path of the object
+-- the same as a wrong field, after the path of the object
 abbrev pub unknown_in : List ℕ → List Field → Option Data → Option Wrong
 unknown_in path known object =
     option_map (λ m. record { field = path ++ m.0; found = found (Some m.1) }) (option_and_then (first_unknown known) (option_and_then as_object object))

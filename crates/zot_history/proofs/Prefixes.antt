@@ -8,8 +8,8 @@ module _ {A : Type 0} where
   no_more (x ∷ xs) e = absurd (omega arith)
 
   -- what comes after a list and leaves it is empty
-  pub behind_itself : (xs ys : List A) → xs ++ ys ≡ xs → ys ≡ []
-  behind_itself xs ys e = no_more ys (omega (arith, ap length e, length-append xs ys))
+  pub after_itself : (xs ys : List A) → xs ++ ys ≡ xs → ys ≡ []
+  after_itself xs ys e = no_more ys (omega (arith, ap length e, length-append xs ys))
 
   pub prefix_refl : (xs : List A) → IsPrefix xs xs
   prefix_refl xs = ([], append-nil xs)

@@ -60,13 +60,13 @@ abbrev pub longer : OpenUpload → List ℕ → OpenUpload
 longer upload piece = record { bytes = upload.bytes ++ piece; start = upload.start }
 
 -- the uploads in which the one found under the id has a piece after its bytes
-abbrev pub put_behind : NumberMap OpenUpload → ℕ → List ℕ → Option OpenUpload → NumberMap OpenUpload
-put_behind uploads id piece None = uploads
-put_behind uploads id piece (Some upload) = map.insert uploads id (longer upload piece)
+abbrev pub put_after : NumberMap OpenUpload → ℕ → List ℕ → Option OpenUpload → NumberMap OpenUpload
+put_after uploads id piece None = uploads
+put_after uploads id piece (Some upload) = map.insert uploads id (longer upload piece)
 
 -- the table in which an open upload has a piece after its bytes
 abbrev pub with_piece : UploadTable → ℕ → List ℕ → UploadTable
-with_piece table id piece = record { uploads = put_behind table.uploads id piece (map.get table.uploads id); opened = table.opened }
+with_piece table id piece = record { uploads = put_after table.uploads id piece (map.get table.uploads id); opened = table.opened }
 
 -- the table in which an upload isn't open any more
 abbrev pub without : UploadTable → ℕ → UploadTable

@@ -45,7 +45,7 @@ joined_bytes (part ∷ next ∷ parts) all =
 
 -- each byte of a name is one that names have
 pub name_bytes : (text : List ℕ) → IsName text → AllPass is_name_byte text
-name_bytes text is = subst (AllPass is_name_byte) (sym is.spelled) (joined_bytes is.parts is.components)
+name_bytes text is = subst (AllPass is_name_byte) (sym is.spelled) (joined_bytes is.components is.formed)
 
 -- each byte of a tag is one that tags have
 pub tag_bytes : (text : List ℕ) → IsTag text → AllPass is_tag_byte text

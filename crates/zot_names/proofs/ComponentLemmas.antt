@@ -7,7 +7,7 @@ use Rattle.std.proofs.lemmas.List.Elements.{All-nil, All-cons, All-head, All-tai
 use Rattle.zot_names.specs.declared.component.Place.{Place}
 use Rattle.zot_names.specs.declared.component.Place.TheVariants.{Start, Run, Underscore, Dashes}
 use Rattle.zot_names.specs.Name.{AreDashes, IsComponent, IsRun, IsSeparator, is_alphanumeric}
-use Rattle.zot_names.specs.Reading.{behind_separator, completes, place_behind}
+use Rattle.zot_names.specs.Reading.{after_separator, completes, place_after}
 
 -- a separator with a run after it
 abbrev IsPair : List ℕ × List ℕ → Type 0
@@ -27,8 +27,8 @@ AllPass-cons : (p : ℕ → Bool) (c : ℕ) (xs : List ℕ) → p c ≡ true →
 AllPass-cons p c xs h all = All-cons (λ x. p x ≡ true) c xs h all
 
 -- after a run, a separator and a component go on as the run's component does
-behind_run : (separator rest text : List ℕ) → IsSeparator separator → IsComponent rest → text ≡ separator ++ rest → Expected Run text
-behind_run separator rest text is component e =
+after_run : (separator rest text : List ℕ) → IsSeparator separator → IsComponent rest → text ≡ separator ++ rest → Expected Run text
+after_run separator rest text is component e =
     let same : text ≡ (separator ++ component.first) ++ spelled component.more =
     e ∙ ap (λ t. separator ++ t) component.spelled ∙ sym (append_assoc separator component.first (spelled component.more)) in
     ([], (separator, component.first) ∷ component.more, All-nil _, ((is, component.run), component.joined), same)
@@ -53,23 +53,23 @@ of_byte Dashes c rest a h = ([], c ∷ rest, All-nil _, component_from c rest a 
 of_underscore : (rest : List ℕ) → Expected Underscore rest → Expected Run (95 ∷ rest)
 of_underscore rest (front, after, is, component, e) =
     elim is [
-      | inl none ↦ behind_run (codes "_") after (95 ∷ rest) (inr (inl refl)) component (ap (λ t. 95 ∷ t) (e ∙ ap (λ t. t ++ after) none))
-      | inr one ↦ behind_run (codes "__") after (95 ∷ rest) (inr (inr (inl refl))) component (ap (λ t. 95 ∷ t) (e ∙ ap (λ t. t ++ after) one))
+      | inl none ↦ after_run (codes "_") after (95 ∷ rest) (inr (inl refl)) component (ap (λ t. 95 ∷ t) (e ∙ ap (λ t. t ++ after) none))
+      | inr one ↦ after_run (codes "__") after (95 ∷ rest) (inr (inr (inl refl))) component (ap (λ t. 95 ∷ t) (e ∙ ap (λ t. t ++ after) one))
     ]
 
 -- after `-`
 of_dash : (rest : List ℕ) → Expected Dashes rest → Expected Run (45 ∷ rest)
 of_dash rest (front, after, dashes, component, e) =
-    behind_run (45 ∷ front) after (45 ∷ rest) (inr (inr (inr (record { nonempty = omega arith; bytes = AllPass-cons (λ d. d == 45) 45 front refl dashes })))) component
+    after_run (45 ∷ front) after (45 ∷ rest) (inr (inr (inr (record { nonempty = omega arith; bytes = AllPass-cons (λ d. d == 45) 45 front refl dashes })))) component
     (ap (λ t. 45 ∷ t) e)
 
 -- after a byte of a separator
 of_separator : (place : Place) (c : ℕ) (rest : List ℕ) → ((p : Place) → completes (Some p) rest ≡ true → Expected p rest)
-    → completes (behind_separator place c) rest ≡ true → Expected place (c ∷ rest)
+    → completes (after_separator place c) rest ≡ true → Expected place (c ∷ rest)
 of_separator Start c rest ih h = cc h
 of_separator Run c rest ih h =
     elim (cases_Bool (c == 46)) [
-      | inl dot ↦ let k = rw dot at h in rw (eqb-true c 46 dot) (behind_run (codes ".") rest (46 ∷ rest) (inl refl) (ih Start k) refl)
+      | inl dot ↦ let k = rw dot at h in rw (eqb-true c 46 dot) (after_run (codes ".") rest (46 ∷ rest) (inl refl) (ih Start k) refl)
       | inr no_dot ↦
           let h' = rw no_dot at h in
           elim (cases_Bool (c == 95)) [
@@ -96,9 +96,9 @@ of_separator Dashes c rest ih h =
       | inr no_dash ↦ let k = rw no_dash at h in cc k
     ]
 
-behind_sound : (place : Place) (c : ℕ) (rest : List ℕ) → ((p : Place) → completes (Some p) rest ≡ true → Expected p rest)
-    → completes (place_behind place c) rest ≡ true → Expected place (c ∷ rest)
-behind_sound place c rest ih h =
+after_sound : (place : Place) (c : ℕ) (rest : List ℕ) → ((p : Place) → completes (Some p) rest ≡ true → Expected p rest)
+    → completes (place_after place c) rest ≡ true → Expected place (c ∷ rest)
+after_sound place c rest ih h =
     elim (cases_Bool (is_alphanumeric c)) [
       | inl byte ↦ let k = rw byte at h in of_byte place c rest byte (ih Run k)
       | inr none ↦ let k = rw none at h in of_separator place c rest ih k
@@ -110,11 +110,11 @@ completes_sound [] Start h = cc h
 completes_sound [] Run h = ([], [], All-nil _, tt, refl)
 completes_sound [] Underscore h = cc h
 completes_sound [] Dashes h = cc h
-completes_sound (c ∷ rest) place h = behind_sound place c rest (completes_sound rest) h
+completes_sound (c ∷ rest) place h = after_sound place c rest (completes_sound rest) h
 
 -- a letter or a digit leads after it, wherever it stands
 byte_passes : (place : Place) (c : ℕ) (rest : List ℕ) → is_alphanumeric c ≡ true → completes (Some place) (c ∷ rest) ≡ completes (Some Run) rest
-byte_passes place c rest byte = ap (λ b. completes (cond b (Some Run) (behind_separator place c)) rest) byte
+byte_passes place c rest byte = ap (λ b. completes (cond b (Some Run) (after_separator place c)) rest) byte
 
 -- a run leads after a letter or a digit
 run_passes : (run rest : List ℕ) → AllPass is_alphanumeric run → completes (Some Run) (run ++ rest) ≡ completes (Some Run) rest

@@ -39,8 +39,8 @@ bytes_stand (c ∷ bytes) text pieces (after, e, h) =
     let (rest, f, k) = bytes_stand bytes after pieces h in
     (rest, e ∙ ap (λ t. c ∷ t) f, k)
 
-pub behind_bytes : (bytes text : List ℕ) (pieces : List Piece) → StandFor (bytes_of bytes ++ pieces) (bytes ++ text) → StandFor pieces text
-behind_bytes bytes text pieces h =
+pub after_bytes : (bytes text : List ℕ) (pieces : List Piece) → StandFor (bytes_of bytes ++ pieces) (bytes ++ text) → StandFor pieces text
+after_bytes bytes text pieces h =
     let (rest, e, k) = bytes_stand bytes (bytes ++ text) pieces h in
     subst (StandFor pieces) (sym (same_rest bytes text rest e)) k
 
@@ -121,12 +121,12 @@ first_slash [] = inl (All-nil IsClear)
 first_slash (c ∷ bytes) = slash_first c bytes (cases_eq c slash) (first_slash bytes)
 
 -- the first slash of a list is one
-behind_first : (front other after rest : List ℕ) → HasNoSlash front → HasNoSlash other → front ++ (slash ∷ after) ≡ other ++ (slash ∷ rest) → after ≡ rest
-behind_first [] [] after rest clear clear' e = cc e
-behind_first [] (d ∷ other) after rest clear clear' e = let first : d ≡ slash = cc e in absurd (All-head IsClear d other clear' first)
-behind_first (c ∷ front) [] after rest clear clear' e = let first : c ≡ slash = cc e in absurd (All-head IsClear c front clear first)
-behind_first (c ∷ front) (d ∷ other) after rest clear clear' e =
-    behind_first front other after rest (All-tail IsClear c front clear) (All-tail IsClear d other clear') (cc e)
+after_first : (front other after rest : List ℕ) → HasNoSlash front → HasNoSlash other → front ++ (slash ∷ after) ≡ other ++ (slash ∷ rest) → after ≡ rest
+after_first [] [] after rest clear clear' e = cc e
+after_first [] (d ∷ other) after rest clear clear' e = let first : d ≡ slash = cc e in absurd (All-head IsClear d other clear' first)
+after_first (c ∷ front) [] after rest clear clear' e = let first : c ≡ slash = cc e in absurd (All-head IsClear c front clear first)
+after_first (c ∷ front) (d ∷ other) after rest clear clear' e =
+    after_first front other after rest (All-tail IsClear c front clear) (All-tail IsClear d other clear') (cc e)
 
 -- where bytes come later after a run without a slash, and such a run after them, what lies between has no slash either
 gap_is_clear : (run bytes more gap : List ℕ) → HasNoSlash run → HasNoSlash more → (run ++ bytes) ++ more ≡ bytes ++ gap → HasNoSlash gap
@@ -135,22 +135,22 @@ gap_is_clear run bytes more gap clear clear' e =
       | inl none ↦
           let all = All-append IsClear (run ++ bytes) more (All-append IsClear run bytes clear none) clear' in
           clear_rest bytes gap (subst HasNoSlash e all)
-      | inr first ↦ gap_behind run more gap first.0 first.1 clear clear' first.2 (subst (λ (b : List ℕ). (run ++ b) ++ more ≡ b ++ gap) first.3 e)
+      | inr first ↦ gap_after run more gap first.0 first.1 clear clear' first.2 (subst (λ (b : List ℕ). (run ++ b) ++ more ≡ b ++ gap) first.3 e)
     ]
   where
-    gap_behind : (run more gap front after : List ℕ) → HasNoSlash run → HasNoSlash more → HasNoSlash front
+    gap_after : (run more gap front after : List ℕ) → HasNoSlash run → HasNoSlash more → HasNoSlash front
         → (run ++ (front ++ (slash ∷ after))) ++ more ≡ (front ++ (slash ∷ after)) ++ gap → HasNoSlash gap
-    gap_behind run more gap front after clear clear' clear'' e =
+    gap_after run more gap front after clear clear' clear'' e =
         let left : (run ++ (front ++ (slash ∷ after))) ++ more ≡ (run ++ front) ++ (slash ∷ (after ++ more)) =
         ap (λ t. t ++ more) (sym (append_assoc run front (slash ∷ after))) ∙ append_assoc (run ++ front) (slash ∷ after) more in
         let right : (front ++ (slash ∷ after)) ++ gap ≡ front ++ (slash ∷ (after ++ gap)) = append_assoc front (slash ∷ after) gap in
-        let same = behind_first (run ++ front) front (after ++ more) (after ++ gap) (All-append IsClear run front clear clear'') clear'' (sym left ∙ e ∙ right) in
+        let same = after_first (run ++ front) front (after ++ more) (after ++ gap) (All-append IsClear run front clear clear'') clear'' (sym left ∙ e ∙ right) in
         subst HasNoSlash (same_rest after more gap same) clear'
 
 -- after a star, a later match of bytes and a star is an earlier one
 pub within_bytes : (bytes text : List ℕ) (pieces : List Piece) → StandFor (Within ∷ (bytes_of bytes ++ (Within ∷ pieces))) (bytes ++ text) → StandFor (Within ∷ pieces) text
 within_bytes bytes text pieces (run, rest, e, clear, h) =
-    let (behind, f, (more, end, g, clear', k)) = bytes_stand bytes rest (Within ∷ pieces) h in
+    let (after, f, (more, end, g, clear', k)) = bytes_stand bytes rest (Within ∷ pieces) h in
     let tail : run ++ rest ≡ ((run ++ bytes) ++ more) ++ end =
     ap (λ t. run ++ t) (f ∙ ap (λ t. bytes ++ t) g) ∙ sym (append_assoc run bytes (more ++ end)) ∙ sym (append_assoc (run ++ bytes) more end) in
     let lengths = length-append run bytes in

@@ -50,16 +50,16 @@ slash = 47
 abbrev pub is_name_byte : ℕ → Bool
 is_name_byte c = is_alphanumeric c || ((c == 46) || ((c == 95) || ((c == 45) || (c == slash))))
 
--- the parts of a text between its slashes
-abbrev pub parts_of : List ℕ → List (List ℕ)
-parts_of text = slice_split (λ c. c == slash) text
+-- what stands between the slashes of a text, in a name its components
+abbrev pub components_of : List ℕ → List (List ℕ)
+components_of text = slice_split (λ c. c == slash) text
 
 -- the name of a repository: one or more components joined by slashes, in at most 255 bytes, none of them reserved.
 -- The limit is this project's
 pub record IsName (text : List ℕ) : Type 0 where
-  pub parts : List (List ℕ)
-  pub some : 0 < length parts
-  pub components : AllByRecursion IsComponent parts
-  pub spelled : text ≡ join_with_byte slash parts
+  pub components : List (List ℕ)
+  pub some : 0 < length components
+  pub formed : AllByRecursion IsComponent components
+  pub spelled : text ≡ join_with_byte slash components
   pub short : length text ≤ 255
-  pub free : IsFree parts
+  pub free : IsFree components

@@ -6,15 +6,15 @@ use Rattle.zot_names.specs.declared.component.Place.TheVariants.{Start, Run, Und
 use Rattle.zot_names.specs.Name.{is_alphanumeric}
 
 -- the place after a byte of a separator, or none where it can't stand
-abbrev pub behind_separator : Place → ℕ → Option Place
-behind_separator Start c = None
-behind_separator Run c = if c == 46 then Some Start else if c == 95 then Some Underscore else if c == 45 then Some Dashes else None
-behind_separator Underscore c = if c == 95 then Some Start else None
-behind_separator Dashes c = if c == 45 then Some Dashes else None
+abbrev pub after_separator : Place → ℕ → Option Place
+after_separator Start c = None
+after_separator Run c = if c == 46 then Some Start else if c == 95 then Some Underscore else if c == 45 then Some Dashes else None
+after_separator Underscore c = if c == 95 then Some Start else None
+after_separator Dashes c = if c == 45 then Some Dashes else None
 
 -- the place after a byte
-abbrev pub place_behind : Place → ℕ → Option Place
-place_behind place c = if is_alphanumeric c then Some Run else behind_separator place c
+abbrev pub place_after : Place → ℕ → Option Place
+place_after place c = if is_alphanumeric c then Some Run else after_separator place c
 
 -- whether a component may end here
 abbrev pub may_end : Place → Bool
@@ -27,7 +27,7 @@ may_end Dashes = false
 abbrev pub completes : Option Place → List ℕ → Bool
 completes None bytes = false
 completes (Some place) [] = may_end place
-completes (Some place) (c ∷ bytes) = completes (place_behind place c) bytes
+completes (Some place) (c ∷ bytes) = completes (place_after place c) bytes
 
 -- whether a part is reserved, after the one before it
 unfoldable pub is_reserved : List ℕ → List ℕ → Bool

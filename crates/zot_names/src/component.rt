@@ -1,6 +1,6 @@
 //! The components of a repository's name.
 ghost use Rattle.std.specs.Prelude.{◌≡◌};
-ghost use Rattle.zot_names.specs.Reading.{completes, may_end, place_behind};
+ghost use Rattle.zot_names.specs.Reading.{completes, may_end, place_after};
 ghost use Rattle.zot_names.specs.declared.component.Place.TheVariants as places;
 
 /// Where the reader of a component stands.
@@ -18,8 +18,8 @@ enum Place {
 
 impl Place {
     // The place after this byte, or none where the byte can't stand here.
-    fn behind(self, byte: u8) -> Option<Place>
-        ensures { result ≡ place_behind self byte }
+    fn after(self, byte: u8) -> Option<Place>
+        ensures { result ≡ place_after self byte }
     {
         if byte.is_ascii_lowercase() || byte.is_ascii_digit() {
             return Some(Place::Run);
@@ -54,7 +54,7 @@ pub fn is_component(bytes: &[u8]) -> bool
 {
     let mut place = Place::Start;
     for byte in bytes {
-        let Some(next) = place.behind(*byte) else {
+        let Some(next) = place.after(*byte) else {
             return false;
         };
         place = next;

@@ -17,8 +17,8 @@ pub fn glob_matches(glob: &str, name: &str) -> bool
     loop {
         match pass_within(pieces, rest) {
             Passed::Whole => return true,
-            Passed::Across(behind, left) => {
-                pieces = behind;
+            Passed::Across(after, left) => {
+                pieces = after;
                 rest = left;
                 starred = true;
             }
@@ -41,15 +41,15 @@ fn pass_within<'a>(glob: &'a [u8], text: &'a [u8]) -> Passed<'a>
     loop {
         match skip_bytes(pieces, rest) {
             Reached::Whole => return Passed::Whole,
-            Reached::Within(behind, left) => {
-                pieces = behind;
+            Reached::Within(after, left) => {
+                pieces = after;
                 rest = left;
                 starred = true;
             }
-            Reached::Across(behind, left) => return Passed::Across(behind, left),
+            Reached::Across(after, left) => return Passed::Across(after, left),
             Reached::Failed if !starred => return Passed::Failed,
             Reached::Failed => {
-                let Some(left) = behind_other(rest) else {
+                let Some(left) = after_other(rest) else {
                     return Passed::Failed;
                 };
                 rest = left;
@@ -64,15 +64,15 @@ fn skip_bytes<'a>(glob: &'a [u8], text: &'a [u8]) -> Reached<'a>
 {
     let mut pieces = glob;
     let mut rest = text;
-    while let Some((piece, behind)) = first_piece(pieces) {
+    while let Some((piece, after)) = first_piece(pieces) {
         match piece {
-            Piece::Within => return Reached::Within(behind, rest),
-            Piece::Across => return Reached::Across(behind, rest),
+            Piece::Within => return Reached::Within(after, rest),
+            Piece::Across => return Reached::Across(after, rest),
             Piece::Byte(byte) => {
-                let Some(left) = behind_byte(byte, rest) else {
+                let Some(left) = after_byte(byte, rest) else {
                     return Reached::Failed;
                 };
-                pieces = behind;
+                pieces = after;
                 rest = left;
             }
         }
@@ -85,7 +85,7 @@ fn skip_bytes<'a>(glob: &'a [u8], text: &'a [u8]) -> Reached<'a>
 }
 
 // What stands after this byte, where the text begins with it.
-fn behind_byte(byte: u8, text: &[u8]) -> Option<&[u8]>
+fn after_byte(byte: u8, text: &[u8]) -> Option<&[u8]>
     ensures { MatchOption result ((left : List ℕ) → text.now ≢ byte ∷ left) (λ left. text.now ≡ byte ∷ left.now) }
 {
     match text {
@@ -95,7 +95,7 @@ fn behind_byte(byte: u8, text: &[u8]) -> Option<&[u8]>
 }
 
 // What stands after the text's first byte, where that isn't a slash.
-fn behind_other(text: &[u8]) -> Option<&[u8]>
+fn after_other(text: &[u8]) -> Option<&[u8]>
     ensures { MatchOption result (BeginsWithNone text.now) (λ left. BeginsWithOther text.now left.now) }
 {
     match text {

@@ -1,7 +1,7 @@
 //! Laws of names and tags.
 ghost use Rattle.std.specs.Prelude.{◌≡◌, ℕ, List};
 ghost use Rattle.std.specs.List.{AllPass};
-ghost use Rattle.zot_names.specs.Name.{IsName, is_name_byte, parts_of};
+ghost use Rattle.zot_names.specs.Name.{IsName, is_name_byte, components_of};
 ghost use Rattle.zot_names.specs.Tag.{IsTag, is_tag_byte};
 
 /// The law that a name has only the bytes of names, among them no blank, `%`, `?` or `:`.
@@ -14,7 +14,7 @@ pub fn bytes_of_tags()
     ensures { (text : List ℕ) → IsTag text → AllPass is_tag_byte text }
 {}
 
-/// The law that a name has one list of components, the parts between its slashes.
-pub fn parts_of_names()
-    ensures { (text : List ℕ) (is : IsName text) → parts_of text ≡ is.parts }
+/// The law that a name has one list of components, those between its slashes.
+pub fn components_of_names()
+    ensures { (text : List ℕ) (is : IsName text) → components_of text ≡ is.components }
 {}

@@ -5,10 +5,10 @@
 #![tactic(auto)]
 
 mod component;
+mod components;
 mod glob;
 mod laws;
 mod name_error;
-mod parts;
 mod passed;
 mod piece;
 mod reached;
@@ -18,7 +18,7 @@ mod tag_list;
 mod upload_id;
 
 pub use crate::glob::glob_matches;
-pub use crate::laws::{bytes_of_names, bytes_of_tags, parts_of_names};
+pub use crate::laws::{bytes_of_names, bytes_of_tags, components_of_names};
 pub use crate::name_error::NameError;
 pub use crate::repo_name::{RepoName, is_name};
 pub use crate::tag::{Tag, is_tag};

@@ -3,8 +3,8 @@ ghost use Rattle.std.specs.Prelude.{◌≡◌, ◌↔◌, IsTrue, IfOk, OnOk};
 ghost use Rattle.std.specs.String.{string_bytes};
 ghost use Rattle.zot_names.specs.Name.{IsName};
 
+use crate::components::are_components;
 use crate::name_error::NameError;
-use crate::parts::are_components;
 use std::alloc::{AllocError, Global};
 use std::marker::Model;
 use zot_digest::Words;

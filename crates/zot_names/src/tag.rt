@@ -86,7 +86,7 @@ pub fn is_tag(text: &str) -> bool
     ensures { IsTrue result ↔ IsTag text.now }
 {
     match text.as_bytes().split_first() {
-        Some((first, more)) => is_word_byte(*first) && may_stand_behind(more),
+        Some((first, more)) => is_word_byte(*first) && may_stand_after(more),
         None => false,
     }
 }
@@ -99,7 +99,7 @@ fn is_word_byte(byte: u8) -> bool
 }
 
 // Whether these bytes may stand after a tag's first one.
-fn may_stand_behind(more: &[u8]) -> bool
+fn may_stand_after(more: &[u8]) -> bool
     ensures { IsTrue result ↔ (AllPass is_tag_byte more.now × (length more.now ≤ MORE)) }
 {
     more.len() <= MORE && are_tag_bytes(more)

@@ -11,7 +11,7 @@ use Rattle.zot_history.specs.History.{Replays, entries_of}
 use Rattle.zot_turn.specs.Turns.{history, turns_of}
 use Rattle.zot_turn.specs.Seats.{numbers, HasOwn}
 use Rattle.zot_turn.specs.Steps.{times, once, blank, Kept}
-use Rattle.zot_history.proofs.Prefixes.{no_more, behind_itself}
+use Rattle.zot_history.proofs.Prefixes.{no_more, after_itself}
 use Rattle.zot_turn.proofs.Lists.{each_map, each_left}
 use Rattle.zot_turn.proofs.Turns.{turns_of-append}
 use Rattle.zot_turn.proofs.Totals.{times-append, times_contained, contained_times, each_number, total_some}
@@ -88,7 +88,7 @@ module _ {O E : Type 0} (step : O → ℕ → E → O → Type 0) (origin : O) w
         (λ n.
         let its = drawn_its t.0 (lt_of_not-le n) in
         let whole : turns_of t.0 k.log ≡ turns_of t.0 v.turns = each_number (λ m. turns_of m k.log ≡ turns_of m v.turns) v.mine (each_left (λ m. turns_of m.0 k.log ≡ turns_of m.0 v.turns) v.mine (blank v.ready) f.whole) t.0 its in
-        absurd (stands_there t ts (behind_itself (turns_of t.0 v.turns) (turns_of t.0 (t ∷ ts)) (sym there ∙ whole))))
+        absurd (stands_there t ts (after_itself (turns_of t.0 v.turns) (turns_of t.0 (t ∷ ts)) (sym there ∙ whole))))
 
     seen_all : v.turns ≡ k.log
     seen_all = let p = (k.known id v at).seen in sym (append-nil v.turns) ∙ ap (λ (l : List (ℕ × List E)). v.turns ++ l) (sym (none_after p.0 p.1)) ∙ p.1

@@ -9,7 +9,7 @@ use Rattle.zot_history.specs.History.{signed, entries_of}
 use Rattle.zot_turn.specs.Turns.{history, turns_of}
 use Rattle.zot_history.proofs.Histories.{cond_append, entries_of-append, entries_of_others, entries_of_signed}
 use Rattle.zot_turn.specs.Seats.{longer, shorter}
-use Rattle.zot_history.proofs.Prefixes.{no_more, behind_itself, prefix_refl, both_begin}
+use Rattle.zot_history.proofs.Prefixes.{no_more, after_itself, prefix_refl, both_begin}
 
 module _ {E : Type 0} where
   pub history-append : (xs ys : List (ℕ × List E)) → history (xs ++ ys) ≡ history xs ++ history ys
@@ -71,7 +71,7 @@ module _ {E : Type 0} where
 
   -- a beginning that has all turns of a number: the turns after it have none
   pub none_after : (n : ℕ) (xs more : List (ℕ × List E)) → turns_of n (xs ++ more) ≡ turns_of n xs → turns_of n more ≡ []
-  none_after n xs more h = behind_itself (turns_of n xs) (turns_of n more) (sym (turns_of-append n xs more) ∙ h)
+  none_after n xs more h = after_itself (turns_of n xs) (turns_of n more) (sym (turns_of-append n xs more) ∙ h)
 
   -- the longer and the shorter of two beginnings of one history
   pub record Longer (xs ys zs : List (ℕ × List E)) (long short : List (ℕ × List E)) : Type 0 where

@@ -10,7 +10,7 @@ use Rattle.zot_model.specs.declared.span.Span.{Span}
 use Rattle.zot_maps.proofs.Maps.{get_elsewhere, number_order, removed_elsewhere, removed_here}
 use Rattle.zot_uploads.specs.Cases.{GoesOn, HasRoom, KeepsLimit, Refuses, RefusesWhole}
 use Rattle.zot_model.specs.Pieces.{goes_on, keeps_limit}
-use Rattle.zot_model.specs.Uploads.{NumberMap, OpenUpload, UploadTable, last_id, longer, open_limit, put_behind, with_new, with_piece, without}
+use Rattle.zot_model.specs.Uploads.{NumberMap, OpenUpload, UploadTable, last_id, longer, open_limit, put_after, with_new, with_piece, without}
 use Rattle.zot_uploads.specs.declared.upload_error.UploadError.{UploadError}
 use Rattle.zot_uploads.specs.declared.upload_error.UploadError.TheVariants as errors
 
@@ -151,7 +151,7 @@ whole_answered_once (Some upload) range piece digest error other h k =
 pub begun_beside : (table : UploadTable) (moment other : ℕ) → other ≢ table.opened + 1 → map.get (with_new moment table).uploads other ≡ map.get table.uploads other
 begun_beside table moment other differs = get_elsewhere number_order table.uploads (table.opened + 1) _ other differs
 
-put_beside : (uploads : NumberMap OpenUpload) (id other : ℕ) (piece : List ℕ) (found : Option OpenUpload) → other ≢ id → map.get (put_behind uploads id piece found) other ≡ map.get uploads other
+put_beside : (uploads : NumberMap OpenUpload) (id other : ℕ) (piece : List ℕ) (found : Option OpenUpload) → other ≢ id → map.get (put_after uploads id piece found) other ≡ map.get uploads other
 put_beside uploads id other piece None differs = refl
 put_beside uploads id other piece (Some upload) differs = get_elsewhere number_order uploads id (longer upload piece) other differs
 

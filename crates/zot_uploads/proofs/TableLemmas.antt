@@ -11,7 +11,7 @@ use Rattle.std.proofs.lemmas.Map.Entries.{option_filter}
 use Rattle.std.specs.BTreeMap.{is_at}
 use Rattle.std.specs.Map.{KeepsOthers, lookup}
 use Rattle.zot_maps.proofs.Maps.{entries-insert, found_at, insert-same, number_order, tied_keys}
-use Rattle.zot_model.specs.Uploads.{NumberMap, OpenUpload, UploadTable, WereGiven, no_uploads, if_young, is_aged, longer, numbered, put_behind}
+use Rattle.zot_model.specs.Uploads.{NumberMap, OpenUpload, UploadTable, WereGiven, no_uploads, if_young, is_aged, longer, numbered, put_after}
 
 kept_young : (b : Bool) (upload : OpenUpload) → cond (not b) (Some upload) None ≡ (if b then None else Some upload)
 kept_young true upload = refl
@@ -49,15 +49,15 @@ pub given-remove : (old new : NumberMap OpenUpload) (id n : ℕ) → new ≡ map
 given-remove old new id n is given = λ q has.
     given q (gone (eq_by_cmp nat_cmp q id) (map.get old q) (subst (λ o. IsSome o) (ap (λ u. map.get u q) is ∙ get-remove nat_cmp_total old id q) has))
 
-given-behind : (old : NumberMap OpenUpload) (id n : ℕ) (piece : List ℕ) (found : Option OpenUpload) → map.get old id ≡ found → WereGiven old n → WereGiven (put_behind old id piece found) n
-given-behind old id n piece None e given = given
-given-behind old id n piece (Some upload) e given =
+given-after : (old : NumberMap OpenUpload) (id n : ℕ) (piece : List ℕ) (found : Option OpenUpload) → map.get old id ≡ found → WereGiven old n → WereGiven (put_after old id piece found) n
+given-after old id n piece None e given = given
+given-after old id n piece (Some upload) e given =
     given-insert old (map.insert old id (longer upload piece)) id n n (longer upload piece) refl given (given id (subst (λ o. IsSome o) (sym e) refl)) (omega arith)
 
 -- and after a piece was put after an upload's bytes, or wasn't
-pub given-append : {T E : Type 0} (result : Result T E) (old new : NumberMap OpenUpload) (id n : ℕ) (piece : List ℕ) → OnOk result (new ≡ put_behind old id piece (map.get old id)) → OnErr result (new ≡ old)
+pub given-append : {T E : Type 0} (result : Result T E) (old new : NumberMap OpenUpload) (id n : ℕ) (piece : List ℕ) → OnOk result (new ≡ put_after old id piece (map.get old id)) → OnErr result (new ≡ old)
     → WereGiven old n → WereGiven new n
-given-append (Ok x) old new id n piece ok err given = subst (λ u. WereGiven u n) (sym ok) (given-behind old id n piece (map.get old id) refl given)
+given-append (Ok x) old new id n piece ok err given = subst (λ u. WereGiven u n) (sym ok) (given-after old id n piece (map.get old id) refl given)
 given-append (Err e) old new id n piece ok err given = subst (λ u. WereGiven u n) (sym err) given
 
 -- what a tree says that was written through at a number, if it has something there
@@ -77,10 +77,10 @@ written_at es fs uploads id upload written is has through =
 -- a piece was put after the bytes of an open upload
 pub put : {T E : Type 0} (result : Result T E) (es fs : List (ℕ × OpenUpload)) (uploads : NumberMap OpenUpload) (id : ℕ) (upload written : OpenUpload) (piece : List ℕ) → numbered es ≡ uploads
     → Some upload ≡ lookup (is_at (nat_cmp id)) es → Through es id written fs → OnOk result (written ≡ longer upload piece)
-    → OnOk result (numbered fs ≡ put_behind uploads id piece (map.get uploads id))
+    → OnOk result (numbered fs ≡ put_after uploads id piece (map.get uploads id))
 put (Ok x) es fs uploads id upload written piece is has through ok =
     written_at es fs uploads id upload written is has through ∙ ap (λ (w : OpenUpload). map.insert uploads id w) ok
-    ∙ ap (put_behind uploads id piece) (sym (found_at number_order es uploads id (Some upload) is has))
+    ∙ ap (put_after uploads id piece) (sym (found_at number_order es uploads id (Some upload) is has))
 put (Err e) es fs uploads id upload written piece is has through ok = tt
 
 -- none was

@@ -2,7 +2,7 @@
 ghost use Rattle.std.specs.Prelude.{◌≡◌, ℕ, ◌+◌, ◌≤◌, length, IfOk, IfErr, OnOk, OnErr, option_copied};
 ghost use Rattle.std.specs.FinMap as map;
 ghost use Rattle.zot_uploads.specs.Cases.{IsTaken, Refuses};
-ghost use Rattle.zot_model.specs.Uploads.{bytes_of, if_young, put_behind};
+ghost use Rattle.zot_model.specs.Uploads.{bytes_of, if_young, put_after};
 
 use crate::upload::Upload;
 use crate::upload_error::UploadError;
@@ -70,7 +70,7 @@ impl UploadMap {
     ) -> Result<u64, UploadError>
         ensures taken { OnOk result (IsTaken (map.get self.old id) range piece.now) }
         ensures length { IfOk result (λ n. n ≡ length (bytes_of (map.get self.old id)) + length piece.now) }
-        ensures ok { OnOk result (self.new ≡ put_behind self.old id piece.now (map.get self.old id)) }
+        ensures ok { OnOk result (self.new ≡ put_after self.old id piece.now (map.get self.old id)) }
         ensures refused { IfErr result (Refuses (map.get self.old id) range piece.now) }
         ensures stays { OnErr result (self.new ≡ self.old) }
     {

@@ -7,9 +7,9 @@ use Rattle.zot_names.specs.declared.piece.Piece.TheVariants.{Byte}
 use Rattle.zot_names.proofs.glob.skip_bytes.Goals as goal
 
 -- a byte stands for itself alone
-other_byte : (c : ℕ) (glob behind text : List ℕ) → pieces_of glob ≡ Byte c ∷ pieces_of behind → ((left : List ℕ) → text ≡ c ∷ left → ⊥)
+other_byte : (c : ℕ) (glob after text : List ℕ) → pieces_of glob ≡ Byte c ∷ pieces_of after → ((left : List ℕ) → text ≡ c ∷ left → ⊥)
     → ¬ StandFor (pieces_of glob) text
-other_byte c glob behind text e none h =
+other_byte c glob after text e none h =
     let k = subst (λ (p : List Piece). StandFor p text) e h in
     none k.0 k.1
 
@@ -25,16 +25,16 @@ some_left glob text e some h =
     let k : text ≡ [] = subst (λ (g : List ℕ). StandFor (pieces_of g) text) e h in
     some (ap length k)
 
-pub returns-in_default-behind_byte : goal.returns-in_default-behind_byte
-returns-in_default-behind_byte c =
+pub returns-in_default-after_byte : goal.returns-in_default-after_byte
+returns-in_default-after_byte c =
     bytes_fail c.args.glob.now c.args.text.now c.loop-piece.pieces.now c.loop-piece.rest.now c.loop-piece.invariant.0
-    (other_byte c.in-Byte.byte c.loop-piece.pieces.now c.in-Some.behind.now c.loop-piece.rest.now
-    (c.in-Some.ensures.pieces ∙ ap (λ (p : Piece). p ∷ pieces_of c.in-Some.behind.now) c.in-Byte.is) c.in_default-behind_byte.ensures)
+    (other_byte c.in-Byte.byte c.loop-piece.pieces.now c.in-Some.after.now c.loop-piece.rest.now
+    (c.in-Some.ensures.pieces ∙ ap (λ (p : Piece). p ∷ pieces_of c.in-Some.after.now) c.in-Byte.is) c.in_default-after_byte.ensures)
 
 pub loop-piece-preserved : goal.loop-piece-preserved
 loop-piece-preserved c = (
-  bytes_more c.args.glob.now c.args.text.now c.loop-piece.pieces.now c.loop-piece.rest.now c.in-Some.behind.now c.in-Some-behind_byte.left.now c.in-Byte.byte
-      c.loop-piece.invariant.0 (c.in-Some.ensures.pieces ∙ ap (λ (p : Piece). p ∷ pieces_of c.in-Some.behind.now) c.in-Byte.is) c.in-Some-behind_byte.ensures,
+  bytes_more c.args.glob.now c.args.text.now c.loop-piece.pieces.now c.loop-piece.rest.now c.in-Some.after.now c.in-Some-after_byte.left.now c.in-Byte.byte
+      c.loop-piece.invariant.0 (c.in-Some.ensures.pieces ∙ ap (λ (p : Piece). p ∷ pieces_of c.in-Some.after.now) c.in-Byte.is) c.in-Some-after_byte.ensures,
   omega (arith, c.in-Some.ensures.shorter, c.loop-piece.invariant.1),
 )
 

@@ -16,4 +16,4 @@ tag_test r text more first e begins test = (
 pub returns-then-is_word_byte : goal.returns-then-is_word_byte
 returns-then-is_word_byte c =
     tag_test _ _ c.in-Some.more.now c.in-Some.first.now
-    (sym c.as_bytes.ensures.value ∙ c.in-Some.ensures.cases.0) (sym c.is_word_byte.ensures ∙ c.if-is_word_byte.true) c.may_stand_behind.ensures
+    (sym c.as_bytes.ensures.value ∙ c.in-Some.ensures.cases.0) (sym c.is_word_byte.ensures ∙ c.if-is_word_byte.true) c.may_stand_after.ensures

@@ -1,13 +1,13 @@
-//! The parts of a repository's name between its slashes.
+//! The components of a repository's name, between its slashes.
 ghost use Rattle.std.specs.Prelude.{◌≡◌, []};
-ghost use Rattle.zot_names.specs.Name.{parts_of};
+ghost use Rattle.zot_names.specs.Name.{components_of};
 ghost use Rattle.zot_names.specs.Reading.{is_reserved, may_all_follow, may_follow};
 
 use crate::component::is_component;
 
 /// Whether these bytes are components joined by slashes, none of them reserved. Takes no memory.
 pub fn are_components(bytes: &[u8]) -> bool
-    ensures { result ≡ may_all_follow [] (parts_of bytes.now) }
+    ensures { result ≡ may_all_follow [] (components_of bytes.now) }
 {
     let mut previous = b"".as_slice();
     for part in bytes.split(|byte| *byte == b'/') {

@@ -1,8 +1,0 @@
-use Rattle.std.proofs.Common.{◌≡◌, [], length, drop}
-use Rattle.zot_names.specs.Name.{parts_of}
-use Rattle.zot_names.specs.Reading.{may_all_follow}
-use Rattle.zot_names.proofs.parts.are_components.Given as goal
-
-abbrev pub invariant-loop-part : goal.invariant-loop-part
-invariant-loop-part l =
-    may_all_follow [] (parts_of l.bytes) ≡ may_all_follow l.previous (drop (length l.yielded) (parts_of l.bytes))
