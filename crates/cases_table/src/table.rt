@@ -27,17 +27,8 @@ fn received(alloc: Global, message: &[u8]) -> Option<Request> {
         return None;
     };
     let (head, body) = message.split_at(size);
-    asked(alloc, head, body)
-}
-
-// The request that a head and a body ask.
-fn asked(alloc: Global, head: &[u8], body: &[u8]) -> Option<Request> {
-    let Ok(head) = read_head(alloc, head) else {
-        return None;
-    };
-    let Ok(body) = Vec::from_slice(alloc, body) else {
-        return None;
-    };
+    let head = read_head(alloc, head).ok()?;
+    let body = Vec::from_slice(alloc, body).ok()?;
     match route(alloc, &ParsedHead::new(&head), body) {
         Ok(Routed::Request(request)) => Some(request),
         _ => None,

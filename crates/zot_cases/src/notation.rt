@@ -87,11 +87,17 @@ impl Answer {
     // The text in which each `^N*TEXT^` is N times the text.
     fn repeat(&mut self, text: &str) -> String {
         let mut whole = Answer::new(self.alloc());
+        let mut is_within = false;
         for part in text.split('^') {
-            let (count, part) = part.split_once('*').unwrap_or(("1", part));
+            let (count, part) = if is_within {
+                part.split_once('*').unwrap_or(("1", part))
+            } else {
+                ("1", part)
+            };
             for _ in 0..count.parse::<u32>().unwrap_or(1) {
                 whole.say(part);
             }
+            is_within = !is_within;
         }
         self.confirm(!whole.is_wrong(), "out of memory");
         whole.into_text()
