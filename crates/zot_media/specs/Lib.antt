@@ -4,4 +4,5 @@ pub mod Fields
 pub mod Descriptors
 pub mod Manifest
 pub mod References
+pub mod Referrers
 pub mod Answers
