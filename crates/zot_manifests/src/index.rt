@@ -58,13 +58,13 @@ impl Index {
         ensures ok { OnOk result ((referred : List ℕ) → has_digest referred descriptors.now ≡ true → lists self.new.sets referred digest.now ≡ true) }
     {
         for descriptor in descriptors {
-            self.add_one(alloc, descriptor.digest, *digest)?;
+            self.list(alloc, descriptor.digest, *digest)?;
         }
         Ok(())
     }
 
-    // Lists a manifest under a digest. After an `Err` what was listed is listed still.
-    fn add_one(&mut self, alloc: Global, referred: Digest, digest: Digest) -> Result<(), AllocError>
+    /// Lists a manifest under a digest. After an `Err` what was listed is listed still.
+    pub fn list(&mut self, alloc: Global, referred: Digest, digest: Digest) -> Result<(), AllocError>
         ensures keeps { KeepsListed self.old.sets self.new.sets }
         ensures ok { OnOk result (lists self.new.sets referred digest ≡ true) }
     {
@@ -106,12 +106,12 @@ impl Index {
         ensures { (referred other : List ℕ) → other ≢ digest.now → lists self.old.sets referred other ≡ true → lists self.new.sets referred other ≡ true }
     {
         for descriptor in descriptors {
-            self.remove_one(&descriptor.digest, digest);
+            self.unlist(&descriptor.digest, digest);
         }
     }
 
-    // The same of one digest.
-    fn remove_one(&mut self, referred: &Digest, digest: &Digest)
+    /// Lists a manifest no more under a digest. Takes no memory.
+    pub fn unlist(&mut self, referred: &Digest, digest: &Digest)
         ensures { (asked other : List ℕ) → other ≢ digest.now → lists self.old.sets asked other ≡ true → lists self.new.sets asked other ≡ true }
     {
         if self.remove_from(referred, digest) {

@@ -19,6 +19,7 @@ mod tag_map;
 pub use crate::check_error::CheckError;
 pub use crate::checked::Checked;
 pub use crate::held::Held;
+pub use crate::index::Index;
 pub use crate::kept::Kept;
 pub use crate::manifests::Manifests;
 pub use crate::page::Page;

@@ -1,6 +1,6 @@
 use Rattle.std.specs.Prelude.{⊤}
 use Rattle.zot_manifests.proofs.IndexLemmas.{written_keeps}
-use Rattle.zot_manifests.proofs.index.Index.add_one.Goals as goal
+use Rattle.zot_manifests.proofs.index.Index.list.Goals as goal
 
 pub returns-in-Some-clause-keeps : goal.returns-in-Some-clause-keeps
 returns-in-Some-clause-keeps c = λ r d h.

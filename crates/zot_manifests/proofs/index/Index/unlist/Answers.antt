@@ -1,5 +1,5 @@
 use Rattle.zot_manifests.proofs.IndexLemmas.{dropped_keeps}
-use Rattle.zot_manifests.proofs.index.Index.remove_one.Goals as goal
+use Rattle.zot_manifests.proofs.index.Index.unlist.Goals as goal
 
 pub returns-then-remove_from : goal.returns-then-remove_from
 returns-then-remove_from c = λ asked other apart h.
