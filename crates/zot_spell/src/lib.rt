@@ -12,7 +12,6 @@ mod field;
 mod field_name;
 mod fields;
 mod laws;
-mod places;
 mod query;
 mod reply;
 mod request;

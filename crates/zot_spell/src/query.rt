@@ -9,7 +9,6 @@ use form_urlencoded::Serializer;
 use std::alloc::{AllocError, Global};
 use zot_digest::{Digest, Words};
 use zot_model::{Call, Mount};
-use zot_names::RepoName;
 
 /// The query of a call: its keys with their values.
 #[tactic(auto, unfolding(crate::specs::Wire::parts_of))]
@@ -33,7 +32,7 @@ pub fn form_of(alloc: Global, call: &Call) -> Result<String, AllocError>
     Ok(form.finish())
 }
 
-// Adds the keys of a mount, where there is one.
+// Adds the keys of a mount, where there is one: its digest, and the repository that may have the blob, where that is named.
 fn push_mount(
     alloc: Global,
     form: &mut Serializer<Global>,
@@ -48,20 +47,11 @@ fn push_mount(
         Some(mount) => {
             let text = mount.digest.text(alloc)?;
             form.append_pair("mount", text.as_str())?;
-            push_from(form, &mount.from)
+            match &mount.from {
+                Some(name) => form.append_pair("from", name.as_str()),
+                None => Ok(()),
+            }
         }
-        None => Ok(()),
-    }
-}
-
-// Adds the repository that may have a blob to be taken over, where there is one.
-fn push_from(form: &mut Serializer<Global>, from: &Option<RepoName>) -> Result<(), AllocError>
-    ensures { OnOk result (form.new ≡ record form.old {
-      form = extend_pairs form.old.form (present ((codes "from", from.now) ∷ []));
-    }) }
-{
-    match from {
-        Some(name) => form.append_pair("from", name.as_str()),
         None => Ok(()),
     }
 }
