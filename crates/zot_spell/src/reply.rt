@@ -73,7 +73,7 @@ pub fn held_body(head: bool, reply: &Reply) -> &[u8]
 }
 
 /// The head of a reply: its status line, its fields and the empty line after them. The bytes of a reply are its head and then its body, which a reply to HEAD leaves out, so a blob's bytes needn't be copied. It fails only where memory does.
-#[tactic(auto, unfolding(crate::specs::Spelling::reply_head))]
+#[tactic(auto, using(crate::proofs::AlikeLemmas::head_alone))]
 pub fn spell_head(
     alloc: Global,
     request: Option<&Request>,
@@ -83,14 +83,10 @@ pub fn spell_head(
     requires { MayHave (option_copied request) reply.now }
     ensures { IfOk result (λ bytes. bytes.items ≡ reply_head (option_copied request.entry) reply.now close) }
 {
-    let name = name_of(request);
-    let made = made_body(alloc, name, reply)?;
-    let body = body_in(name, reply, made.as_str());
-    head_of(alloc, name, reply, body.len() as u64, close)
+    spell_front(alloc, request, reply, true, close)
 }
 
 /// Whether bytes are a reply, after which the connection closes or goes on. A blob, a manifest or an index is neither copied nor spelled. It fails only where memory does.
-#[tactic(auto, unfolding(crate::specs::Spelling::reply_bytes, crate::specs::Spelling::spelled))]
 pub fn is_reply(
     alloc: Global,
     request: Option<&Request>,
@@ -102,13 +98,10 @@ pub fn is_reply(
     ensures yes { IfOk result (λ is. IsTrue is → IsReply (option_copied request.entry) reply.now head bytes.now) }
     ensures no { IfOk result (λ is. IsReply (option_copied request.entry) reply.now head bytes.now → IsTrue is) }
 {
-    let name = name_of(request);
-    let made = made_body(alloc, name, reply)?;
-    let body = body_in(name, reply, made.as_str());
-    let shown = shown_in(head, body);
-    let open = head_of(alloc, name, reply, body.len() as u64, false)?;
-    let closing = head_of(alloc, name, reply, body.len() as u64, true)?;
-    Ok(is_joined(bytes, open.as_slice(), shown) || is_joined(bytes, closing.as_slice(), shown))
+    let held = held_body(head, reply);
+    let open = spell_front(alloc, request, reply, head, false)?;
+    let closing = spell_front(alloc, request, reply, head, true)?;
+    Ok(is_joined(bytes, open.as_slice(), held) || is_joined(bytes, closing.as_slice(), held))
 }
 
 // Whether bytes are these two, one after the other.
