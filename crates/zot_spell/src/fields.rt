@@ -6,6 +6,7 @@ ghost use Rattle.zot_spell.specs.Heads.{field_of};
 
 use crate::field::{Field, add_field, add_length};
 use crate::field_name::FieldName;
+use crate::texts::{place, prefixed};
 use std::alloc::{AllocError, Global};
 use zot_digest::Digest;
 use zot_model::Methods;
@@ -36,7 +37,7 @@ pub fn add_made(
         ++ (location_field (codes "/v2/" ++ name.now ++ path.now ++ digest_text digest.now) ∷ (digest_field digest.now ∷ []))) }
 {
     let text = digest.text(alloc)?;
-    let place = ["/v2/", name, path, text.as_str()].concat(alloc)?;
+    let place = place(alloc, name, path, text.as_str())?;
     add_field(alloc, fields, FieldName::Location, place.as_str())?;
     add_field(alloc, fields, FieldName::ContentDigest, text.as_str())
 }
@@ -53,10 +54,9 @@ pub fn add_upload(
     ensures { OnOk result (fields.new.items ≡ fields.old.items ++ upload_fields name.now id.now size) }
 {
     let text = id.text(alloc)?;
-    let place = ["/v2/", name, "/blobs/uploads/", text.as_str()].concat(alloc)?;
-    let last = size.saturating_sub(1).to_string(alloc)?;
-    let range = ["0-", last.as_str()].concat(alloc)?;
+    let place = place(alloc, name, "/blobs/uploads/", text.as_str())?;
     add_field(alloc, fields, FieldName::Location, place.as_str())?;
+    let range = prefixed(alloc, "0-", size.saturating_sub(1).to_string(alloc)?)?;
     add_field(alloc, fields, FieldName::Range, range.as_str())?;
     add_field(alloc, fields, FieldName::UploadId, text.as_str())
 }

@@ -17,6 +17,7 @@ mod reply;
 mod request;
 mod split;
 mod status;
+mod texts;
 
 pub use crate::bodies::page_body;
 pub use crate::cutting::{after, cut};

@@ -9,6 +9,7 @@ use crate::field::{Field, add_field, add_length, push_fields};
 use crate::field_name::FieldName;
 use crate::query::form_of;
 use crate::reply::name_of;
+use crate::texts::prefixed;
 use std::alloc::{AllocError, Global};
 use zot_media::Reference;
 use zot_model::{Call, Request, Span};
@@ -110,26 +111,20 @@ fn path_of(alloc: Global, call: &Call) -> Result<String, AllocError>
     match call {
         Call::Base => Ok(String::new(alloc)),
         Call::GetBlob(digest) | Call::HeadBlob(digest) | Call::DeleteBlob(digest) => {
-            let text = digest.text(alloc)?;
-            ["/blobs/", text.as_str()].concat(alloc)
+            prefixed(alloc, "/blobs/", digest.text(alloc)?)
         }
         Call::Post { .. } => String::from_str(alloc, "/blobs/uploads/"),
         Call::Patch { id, .. } | Call::Finish { id, .. } | Call::UploadState { id } => {
-            let text = id_text(alloc, id)?;
-            ["/blobs/uploads/", text.as_str()].concat(alloc)
+            prefixed(alloc, "/blobs/uploads/", id_text(alloc, id)?)
         }
         Call::PutManifest { reference, .. }
         | Call::GetManifest(reference)
         | Call::HeadManifest(reference)
         | Call::DeleteManifest(reference) => {
-            let text = reference_text(alloc, reference)?;
-            ["/manifests/", text.as_str()].concat(alloc)
+            prefixed(alloc, "/manifests/", reference_text(alloc, reference)?)
         }
         Call::Tags { .. } => String::from_str(alloc, "/tags/list"),
-        Call::Referrers { digest, .. } => {
-            let text = digest.text(alloc)?;
-            ["/referrers/", text.as_str()].concat(alloc)
-        }
+        Call::Referrers { digest, .. } => prefixed(alloc, "/referrers/", digest.text(alloc)?),
     }
 }
 
@@ -164,7 +159,7 @@ fn query_of(alloc: Global, call: &Call) -> Result<String, AllocError>
     if form.is_empty() {
         Ok(form)
     } else {
-        ["?", form.as_str()].concat(alloc)
+        prefixed(alloc, "?", form)
     }
 }
 
