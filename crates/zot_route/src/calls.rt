@@ -26,9 +26,7 @@ pub fn base(method: Method) -> Result<Call, Reply>
 {
     match method {
         Method::Get | Method::Head => Ok(Call::Base),
-        Method::Put | Method::Post | Method::Patch | Method::Delete | Method::Other => {
-            Err(Reply::not_allowed(Methods::Read))
-        }
+        _ => Err(Reply::not_allowed(Methods::Read)),
     }
 }
 
@@ -40,9 +38,7 @@ pub fn blob(method: Method, text: &str) -> Result<Call, Reply>
         Method::Get => Ok(Call::GetBlob(digest(text)?)),
         Method::Head => Ok(Call::HeadBlob(digest(text)?)),
         Method::Delete => Ok(Call::DeleteBlob(digest(text)?)),
-        Method::Put | Method::Post | Method::Patch | Method::Other => Err(Reply::not_allowed(
-            Methods::Blob,
-        )),
+        _ => Err(Reply::not_allowed(Methods::Blob)),
     }
 }
 
@@ -55,18 +51,13 @@ pub fn referrers(method: Method, text: &str, filter: Option<Words>) -> Result<Ca
             digest: digest(text)?,
             filter,
         }),
-        Method::Head
-        | Method::Put
-        | Method::Post
-        | Method::Patch
-        | Method::Delete
-        | Method::Other => { Err(Reply::not_allowed(Methods::List)) }
+        _ => Err(Reply::not_allowed(Methods::List)),
     }
 }
 
 // The number of a text of 1 to 18 digits, where it is there.
-fn number(text: Option<DecodedText>) -> Result<Option<u64>, Reply>
-    ensures { result ≡ number_or text.entry }
+fn number(text: &Option<DecodedText>) -> Result<Option<u64>, Reply>
+    ensures { result ≡ number_or text.now }
 {
     match text {
         Some(text) => match length_of(text.as_str().as_bytes()) {
@@ -78,26 +69,21 @@ fn number(text: Option<DecodedText>) -> Result<Option<u64>, Reply>
 }
 
 /// The call on the tags, by the texts of `n` and `last`.
-pub fn tags(method: Method, n: Option<DecodedText>, last: Option<Words>) -> Result<Call, Reply>
-    ensures { result ≡ tags_call method n.entry last }
+pub fn tags(method: Method, n: &Option<DecodedText>, last: Option<Words>) -> Result<Call, Reply>
+    ensures { result ≡ tags_call method n.now last }
 {
     match method {
         Method::Get => Ok(Call::Tags {
             n: number(n)?,
             last,
         }),
-        Method::Head
-        | Method::Put
-        | Method::Post
-        | Method::Patch
-        | Method::Delete
-        | Method::Other => { Err(Reply::not_allowed(Methods::List)) }
+        _ => Err(Reply::not_allowed(Methods::List)),
     }
 }
 
 // The digest that a text is, where it is there.
-fn optional_digest(text: Option<DecodedText>) -> Result<Option<Digest>, Reply>
-    ensures { result ≡ optional_digest_of text.entry }
+fn optional_digest(text: &Option<DecodedText>) -> Result<Option<Digest>, Reply>
+    ensures { result ≡ optional_digest_of text.now }
 {
     match text {
         Some(text) => Ok(Some(digest(text.as_str())?)),
@@ -118,12 +104,12 @@ fn mount(digest: Option<Digest>, from: Option<RepoName>) -> Option<Mount>
 /// The call on the uploads, by the texts of `mount` and `digest`, the name in `from`, and the body.
 pub fn post(
     method: Method,
-    mounted: Option<DecodedText>,
+    mounted: &Option<DecodedText>,
     from: Option<RepoName>,
-    named: Option<DecodedText>,
+    named: &Option<DecodedText>,
     body: Bytes,
 ) -> Result<Call, Reply>
-    ensures { result ≡ post_call method mounted.entry from named.entry body }
+    ensures { result ≡ post_call method mounted.now from named.now body }
 {
     match method {
         Method::Post => {
@@ -135,8 +121,7 @@ pub fn post(
                 body,
             })
         }
-        Method::Get | Method::Head | Method::Put | Method::Patch | Method::Delete | Method::Other =>
-            { Err(Reply::not_allowed(Methods::Begin)) }
+        _ => Err(Reply::not_allowed(Methods::Begin)),
     }
 }
 
@@ -151,8 +136,8 @@ fn range_of(range: Option<Option<Span>>) -> Result<Option<Span>, Reply>
 }
 
 // The digest that a text is, which has to be there.
-fn needed_digest(text: Option<DecodedText>) -> Result<Digest, Reply>
-    ensures { result ≡ needed_digest_of text.entry }
+fn needed_digest(text: &Option<DecodedText>) -> Result<Digest, Reply>
+    ensures { result ≡ needed_digest_of text.now }
 {
     match text {
         Some(text) => digest(text.as_str()),
@@ -165,10 +150,10 @@ pub fn upload(
     method: Method,
     id: Option<UploadId>,
     range: Option<Option<Span>>,
-    named: Option<DecodedText>,
+    named: &Option<DecodedText>,
     body: Bytes,
 ) -> Result<Call, Reply>
-    ensures { result ≡ upload_call method id range named.entry body }
+    ensures { result ≡ upload_call method id range named.now body }
 {
     match method {
         Method::Get => Ok(Call::UploadState { id }),
@@ -186,8 +171,6 @@ pub fn upload(
                 body,
             })
         }
-        Method::Head | Method::Post | Method::Delete | Method::Other => Err(Reply::not_allowed(
-            Methods::Upload,
-        )),
+        _ => Err(Reply::not_allowed(Methods::Upload)),
     }
 }

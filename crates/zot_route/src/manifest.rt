@@ -1,5 +1,5 @@
 //! The call on a manifest.
-ghost use Rattle.std.specs.Prelude.{◌≡◌, Ok};
+ghost use Rattle.std.specs.Prelude.{Ok};
 ghost use Rattle.zot_model.specs.declared.code.Code.TheVariants.{ManifestInvalid, ManifestUnknown};
 ghost use Rattle.zot_model.specs.Refusals.{refusal};
 ghost use Rattle.zot_route.specs.Calls.{IsManifestCall, IsPutCall, Refers};

@@ -1,5 +1,5 @@
 //! The form of a path, and the name in it.
-ghost use Rattle.std.specs.Prelude.{◌≡◌, ◌≢◌, ℕ, List, [], ◌∷◌, ◌++◌, MatchOption, codes, reverse};
+ghost use Rattle.std.specs.Prelude.{◌≡◌, ◌≢◌, ℕ, List, [], ◌∷◌, MatchOption, codes, reverse};
 ghost use Rattle.zot_route.specs.Path.{IsPath};
 ghost use Rattle.zot_route.specs.Ending.{Read, ends_in_three as ends_in_three_of, ends_in_two as ends_in_two_of, or_three, read_back};
 ghost use Rattle.zot_route.specs.declared.form.Form.{Form as AForm};

@@ -29,13 +29,13 @@ pub fn read_call(
     ensures { UnlessNoMemory result (IsCall form text.now head.now body) }
 {
     match form {
-        Form::Base => base(head),
+        Form::Base => or_stop(calls::base(head.method())),
         Form::Tags => tags(alloc, head),
         Form::Referrers => referrers(alloc, text, head),
         Form::Manifest => { manifest(alloc, head.method(), text, head.fields(), body) }
         Form::Uploads => post(alloc, head, body),
         Form::Upload => upload(alloc, text, head, body),
-        Form::Blob => blob(text, head),
+        Form::Blob => or_stop(calls::blob(head.method(), text)),
     }
 }
 
@@ -47,20 +47,6 @@ fn or_stop(call: Result<Call, Reply>) -> Result<Call, Stop>
         Ok(call) => Ok(call),
         Err(reply) => Err(Stop::Refused(reply)),
     }
-}
-
-// The call on the base route.
-fn base(head: &ParsedHead) -> Result<Call, Stop>
-    ensures { UnlessNoMemory result (IsCall forms.Base [] head.now []) }
-{
-    or_stop(calls::base(head.method()))
-}
-
-// The call on a blob.
-fn blob(text: &str, head: &ParsedHead) -> Result<Call, Stop>
-    ensures { UnlessNoMemory result (IsCall forms.Blob text.now head.now []) }
-{
-    or_stop(calls::blob(head.method(), text))
 }
 
 // The first value of a key in the query, as an owned text.
@@ -79,7 +65,7 @@ fn tags(alloc: Global, head: &ParsedHead) -> Result<Call, Stop>
 {
     let n = value(alloc, head.target().query(), "n")?;
     let last = words(alloc, head, "last")?;
-    or_stop(calls::tags(head.method(), n, last))
+    or_stop(calls::tags(head.method(), &n, last))
 }
 
 // The call on the referrers of a digest.
@@ -113,7 +99,7 @@ fn post(alloc: Global, head: &ParsedHead, body: Bytes) -> Result<Call, Stop>
     let from = value(alloc, query, "from")?;
     let name = from_name(alloc, from)?;
     let digest = value(alloc, query, "digest")?;
-    or_stop(calls::post(head.method(), mount, name, digest, body))
+    or_stop(calls::post(head.method(), &mount, name, &digest, body))
 }
 
 // The upload whose id a text is.
@@ -128,5 +114,5 @@ fn upload(alloc: Global, text: &str, head: &ParsedHead, body: Bytes) -> Result<C
     ensures { UnlessNoMemory result (IsCall forms.Upload text.now head.now body) }
 {
     let digest = value(alloc, head.target().query(), "digest")?;
-    or_stop(calls::upload(head.method(), id(text), range(head.fields()), digest, body))
+    or_stop(calls::upload(head.method(), id(text), range(head.fields()), &digest, body))
 }

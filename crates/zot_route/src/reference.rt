@@ -1,6 +1,5 @@
 //! How a path refers to a manifest.
-ghost use Rattle.std.specs.Prelude.{◌≡◌, ◌==◌};
-ghost use Rattle.std.specs.List.{list_any};
+ghost use Rattle.std.specs.Prelude.{◌≡◌};
 ghost use Rattle.zot_route.specs.Calls.{Refers, bad_reference as bad_reference_of};
 ghost use Rattle.zot_route.specs.Stops.{UnlessNoMemory};
 
@@ -29,16 +28,9 @@ pub fn reference(alloc: Global, text: &str, other: Reply) -> Result<Reference, S
 fn bad_reference(text: &str, other: Reply) -> Reply
     ensures { result ≡ bad_reference_of text.now other }
 {
-    if has_colon(text.as_bytes()) {
+    if text.as_bytes().contains(&b':') {
         Reply::digest_invalid()
     } else {
         other
     }
-}
-
-// Whether a byte is `:`.
-fn has_colon(text: &[u8]) -> bool
-    ensures { result ≡ list_any (λ b. b == 58) text.now }
-{
-    text.iter().any(|byte| *byte == b':')
 }

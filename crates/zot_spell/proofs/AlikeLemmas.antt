@@ -145,3 +145,8 @@ front_and_held request reply head close front e =
     let name = name_in request in
     ap (λ f. f ++ shown_body head (held_body reply)) e ∙ append_assoc (head_of (parts_of name reply) close) (shown_body head (made_body name reply)) (shown_body head (held_body reply))
     ∙ ap (λ b. head_of (parts_of name reply) close ++ b) (two_shown name reply head)
+
+-- to HEAD the front is the head alone
+pub head_alone : (request : Option Request) (reply : Reply) (close : Bool) (front : List ℕ) → front ++ shown_body true (held_body reply) ≡ reply_bytes request reply true close → front ≡ reply_head request reply close
+unfolding reply_bytes spelled reply_head shown_body
+head_alone request reply close front e = sym (append-nil front) ∙ e ∙ append-nil _

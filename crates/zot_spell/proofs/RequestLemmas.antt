@@ -1,12 +1,12 @@
--- The fields of a request, and its head before another body.
-use Rattle.std.proofs.Common.{◌≡◌, ℕ, Bool, Option, Some, None, IsSome, List, [], ◌∷◌, ◌++◌, append-nil, append_assoc, length, refl, ap, ◌∙◌}
+-- The first line of a request, its fields, and its head before another body.
+use Rattle.std.proofs.Common.{◌≡◌, ℕ, Bool, Option, Some, None, IsSome, List, [], ◌∷◌, ◌++◌, append-nil, append_assoc, length, codes, unwrap_or, Result, Ok, Err, IfOk, refl, ap, ◌∙◌}
 use Rattle.zot_model.specs.declared.call.Call.{Call}
 use Rattle.zot_model.specs.declared.call.Call.TheVariants as calls
 use Rattle.zot_model.specs.declared.request.Request.{Request}
 use Rattle.zot_spell.specs.declared.field.Field.{Field}
 use Rattle.zot_spell.specs.declared.field_name.FieldName.{FieldName}
 use Rattle.zot_spell.specs.Heads.{field_of}
-use Rattle.zot_spell.specs.Wire.{body_of, fields_given, parts_of, request_bytes, request_head, request_line, target_text, with_body}
+use Rattle.zot_spell.specs.Wire.{body_of, fields_given, form_of, parts_of, query_text, request_bytes, request_head, request_line, target_text, with_body}
 
 -- a field and then the others are all of them
 one_more : (out : List Field) (first : FieldName × Option (List ℕ)) (rest : List (FieldName × Option (List ℕ)))
@@ -35,3 +35,20 @@ call_then_body name _ hop body has = cc has
 
 pub head_then_body : (request : Request) (body : List ℕ) → IsSome (parts_of request.call).body → request_bytes (with_body request body) ≡ request_head request (length body) ++ body
 head_then_body request body has = call_then_body request.name request.call request.hop body has
+
+-- the first line is its parts, one after the other
+parts_in_line : (method name path query : List ℕ)
+    → method ++ (codes " /v2/" ++ (name ++ (path ++ (query ++ (codes " HTTP/1.1\r\n" ++ []))))) ≡ method ++ codes " " ++ (codes "/v2/" ++ name ++ path ++ query) ++ codes " HTTP/1.1" ++ 13 ∷ 10 ∷ []
+parts_in_line method name path query = simp append_assoc refl
+
+line_of : (request : Request) (method name path query line : List ℕ) → method ≡ (parts_of request.call).method → name ≡ unwrap_or request.name [] → path ≡ (parts_of request.call).path
+    → query ≡ query_text (form_of (parts_of request.call)) → line ≡ method ++ (codes " /v2/" ++ (name ++ (path ++ (query ++ (codes " HTTP/1.1\r\n" ++ []))))) → line ≡ request_line request
+unfolding request_line target_text
+line_of request method name path query line m n p q e =
+    rw (e, m, n, p, q) (parts_in_line (parts_of request.call).method (unwrap_or request.name []) (parts_of request.call).path (query_text (form_of (parts_of request.call))))
+
+pub line_made : {X E : Type 0} (text : X → List ℕ) (request : Request) (method name path query : List ℕ) (made : Result X E) → method ≡ (parts_of request.call).method → name ≡ unwrap_or request.name []
+    → path ≡ (parts_of request.call).path → query ≡ query_text (form_of (parts_of request.call)) → IfOk made (λ line. text line ≡ method ++ (codes " /v2/" ++ (name ++ (path ++ (query ++ (codes " HTTP/1.1\r\n" ++ []))))))
+    → IfOk made (λ line. text line ≡ request_line request)
+line_made text request method name path query (Ok line) m n p q e = line_of request method name path query (text line) m n p q e
+line_made text request method name path query (Err error) m n p q e = tt

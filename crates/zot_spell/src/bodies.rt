@@ -1,13 +1,11 @@
 //! The JSON texts that replies have as bodies.
-ghost use Rattle.std.specs.Prelude.{◌≡◌, ◌++◌, Some, None, codes, map, IfOk, option_map, string_bytes};
+ghost use Rattle.std.specs.Prelude.{◌≡◌, Some, None, map, IfOk, option_map, string_bytes};
 ghost use Rattle.serde_json.specs.Data.{array, string};
 ghost use Rattle.serde_json.specs.View.{items_of, view};
-ghost use Rattle.zot_digest.specs.Digest.{digest_text};
 ghost use Rattle.zot_spell.specs.Bodies.{detail_text, error_body, errors_value, page_body, page_value};
 
 use serde_json::{Value, json};
 use std::alloc::{AllocError, Global};
-use zot_digest::Digest;
 use zot_model::{Code, Detail};
 use zot_names::Tag;
 
@@ -40,30 +38,21 @@ fn undetailed(alloc: Global, code: &str, message: &str) -> Result<Value, AllocEr
     json!(in alloc; {"errors": [{"code": code, "message": message}]})
 }
 
-// What the body says beside the code.
+// What the body says beside the code: a digest, or that one digest was wanted and another one found.
 #[tactic(auto, unfolding(crate::specs::Bodies::detail_text))]
 fn detail_text(alloc: Global, detail: &Detail) -> Result<Option<String>, AllocError>
     ensures { IfOk result (λ text. option_map string_bytes text ≡ detail_text detail.now) }
 {
     match detail {
         Detail::Missing(digest) => Ok(Some(digest.text(alloc)?)),
-        Detail::Differ(wanted, found) => Ok(Some(differing_text(alloc, wanted, found)?)),
+        Detail::Differ(wanted, found) => {
+            let wanted = wanted.text(alloc)?;
+            let found = found.text(alloc)?;
+            let text = ["expected ", wanted.as_str(), " found ", found.as_str()].concat(alloc)?;
+            Ok(Some(text))
+        }
         _ => Ok(None),
     }
-}
-
-// That one digest was wanted and another one found.
-fn differing_text(alloc: Global, wanted: &Digest, found: &Digest) -> Result<String, AllocError>
-    ensures { IfOk result (λ text. string_bytes text
-        ≡ codes "expected " ++ digest_text wanted.now ++ codes " found " ++ digest_text found.now) }
-{
-    let wanted = wanted.text(alloc)?;
-    let found = found.text(alloc)?;
-    let mut text = String::from_str(alloc, "expected ")?;
-    text.push_str(wanted.as_str())?;
-    text.push_str(" found ")?;
-    text.push_str(found.as_str())?;
-    Ok(text)
 }
 
 /// The body of a page of tags.

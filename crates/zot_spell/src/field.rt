@@ -1,5 +1,5 @@
 //! The fields of messages.
-ghost use Rattle.std.specs.Prelude.{◌≡◌, ◌++◌, ◌∷◌, [], OnOk, IfOk};
+ghost use Rattle.std.specs.Prelude.{◌≡◌, ◌++◌, ◌∷◌, [], OnOk};
 ghost use Rattle.std.specs.Option.{option_copied};
 ghost use Rattle.zot_spell.specs.Heads.{field_line, field_of, fields_text, length_field_of, name_text, type_fields, value_in};
 
@@ -8,35 +8,25 @@ use std::alloc::{AllocError, Global};
 use zot_digest::Bytes;
 
 /// A field of a message: its name and its value (RFC 9110, section 5).
-#[derive(Debug, Drop, PartialEq, Eq)]
+#[derive(Drop)]
 pub struct Field {
     pub name: Bytes,
     pub value: Bytes,
 }
 
-impl Field {
-    /// The field of this name with this value. It fails only where memory does.
-    #[tactic(auto, unfolding(crate::specs::Heads::field_of))]
-    pub fn new(alloc: Global, name: FieldName, value: &[u8]) -> Result<Self, AllocError>
-        ensures { IfOk result (λ field. field ≡ field_of name value.now) }
-    {
-        let text = name.text();
-        let name = Bytes::new(Vec::from_slice(alloc, text.as_bytes())?);
-        let value = Bytes::new(Vec::from_slice(alloc, value)?);
-        Ok(Field { name, value })
-    }
-}
-
-/// Adds a field to a list.
+/// Adds the field of this name with this value to a list. It fails only where memory does.
+#[tactic(auto, unfolding(crate::specs::Heads::field_of))]
 pub fn add_field(
     alloc: Global,
     fields: &mut Vec<Field>,
     name: FieldName,
-    value: &[u8],
+    value: &str,
 ) -> Result<(), AllocError>
     ensures { OnOk result (fields.new.items ≡ fields.old.items ++ (field_of name value.now ∷ [])) }
 {
-    fields.push(Field::new(alloc, name, value)?)?;
+    let name = Bytes::new(Vec::from_slice(alloc, name.text().as_bytes())?);
+    let value = Bytes::new(Vec::from_slice(alloc, value.as_bytes())?);
+    fields.push(Field { name, value })?;
     Ok(())
 }
 
@@ -50,7 +40,7 @@ pub fn add_type(
     ensures { OnOk result (fields.new.items ≡ fields.old.items ++ type_fields (option_copied media.entry)) }
 {
     match media {
-        Some(media) => add_field(alloc, fields, FieldName::ContentType, media.as_bytes()),
+        Some(media) => add_field(alloc, fields, FieldName::ContentType, media),
         None => Ok(()),
     }
 }
@@ -61,7 +51,7 @@ pub fn add_length(alloc: Global, fields: &mut Vec<Field>, size: u64) -> Result<(
     ensures { OnOk result (fields.new.items ≡ fields.old.items ++ (length_field_of size ∷ [])) }
 {
     let size = size.to_string(alloc)?;
-    add_field(alloc, fields, FieldName::ContentLength, size.as_bytes())
+    add_field(alloc, fields, FieldName::ContentLength, size.as_str())
 }
 
 /// Adds the lines of fields, and the empty line after them.

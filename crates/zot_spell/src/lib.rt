@@ -12,12 +12,12 @@ mod field;
 mod field_name;
 mod fields;
 mod laws;
-mod places;
 mod query;
 mod reply;
 mod request;
 mod split;
 mod status;
+mod texts;
 
 pub use crate::bodies::page_body;
 pub use crate::cutting::{after, cut};

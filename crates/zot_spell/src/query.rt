@@ -9,31 +9,39 @@ use form_urlencoded::Serializer;
 use std::alloc::{AllocError, Global};
 use zot_digest::{Digest, Words};
 use zot_model::{Call, Mount};
-use zot_names::RepoName;
 
 /// The query of a call: its keys with their values.
-#[tactic(auto, unfolding(crate::specs::Wire::parts_of))]
 pub fn form_of(alloc: Global, call: &Call) -> Result<String, AllocError>
     ensures { IfOk result (λ form. string_bytes form ≡ form_of (parts_of call.now)) }
 {
     let mut form = Serializer::new(String::new(alloc));
-    match call {
-        Call::Post { mount, digest, .. } => {
-            push_mount(alloc, &mut form, mount)?;
-            push_digest(alloc, &mut form, digest)?;
-        }
-        Call::Finish { digest, .. } => push_digest(alloc, &mut form, &Some(*digest))?,
-        Call::Tags { n, last } => {
-            push_number(alloc, &mut form, n)?;
-            push_words(&mut form, "last", last)?;
-        }
-        Call::Referrers { filter, .. } => push_words(&mut form, "artifactType", filter)?,
-        _ => {}
-    }
+    push_form(alloc, &mut form, call)?;
     Ok(form.finish())
 }
 
-// Adds the keys of a mount, where there is one.
+// Adds the keys of a call with their values.
+#[tactic(auto, unfolding(crate::specs::Wire::parts_of))]
+fn push_form(alloc: Global, form: &mut Serializer<Global>, call: &Call) -> Result<(), AllocError>
+    ensures { OnOk result (form.new ≡ record form.old {
+      form = extend_pairs form.old.form (present (parts_of call.now).query);
+    }) }
+{
+    match call {
+        Call::Post { mount, digest, .. } => {
+            push_mount(alloc, form, mount)?;
+            push_digest(alloc, form, digest)
+        }
+        Call::Finish { digest, .. } => push_digest(alloc, form, &Some(*digest)),
+        Call::Tags { n, last } => {
+            push_number(alloc, form, n)?;
+            push_words(form, "last", last)
+        }
+        Call::Referrers { filter, .. } => push_words(form, "artifactType", filter),
+        _ => Ok(()),
+    }
+}
+
+// Adds the keys of a mount, where there is one: its digest, and the repository that may have the blob, where that is named.
 fn push_mount(
     alloc: Global,
     form: &mut Serializer<Global>,
@@ -48,20 +56,11 @@ fn push_mount(
         Some(mount) => {
             let text = mount.digest.text(alloc)?;
             form.append_pair("mount", text.as_str())?;
-            push_from(form, &mount.from)
+            match &mount.from {
+                Some(name) => form.append_pair("from", name.as_str()),
+                None => Ok(()),
+            }
         }
-        None => Ok(()),
-    }
-}
-
-// Adds the repository that may have a blob to be taken over, where there is one.
-fn push_from(form: &mut Serializer<Global>, from: &Option<RepoName>) -> Result<(), AllocError>
-    ensures { OnOk result (form.new ≡ record form.old {
-      form = extend_pairs form.old.form (present ((codes "from", from.now) ∷ []));
-    }) }
-{
-    match from {
-        Some(name) => form.append_pair("from", name.as_str()),
         None => Ok(()),
     }
 }

@@ -1,21 +1,20 @@
 //! Replies as they stand on the wire.
-ghost use Rattle.std.specs.Prelude.{◌≡◌, ◌++◌, ◌∷◌, ◌↔◌, length, IfOk, OnOk, IsTrue, string_bytes};
+ghost use Rattle.std.specs.Prelude.{◌≡◌, ◌++◌, ◌↔◌, length, IfOk, OnOk, IsTrue, string_bytes};
 ghost use Rattle.std.specs.List.{AllPass};
 ghost use Rattle.std.specs.Option.{option_copied};
 ghost use Rattle.http.specs.StatusCode.{IsStatusCode};
 ghost use Rattle.zot_names.specs.Name.{is_name_byte};
-ghost use Rattle.zot_spell.specs.Fields.{digest_field, location_field, manifest_place, subject_fields};
-ghost use Rattle.zot_spell.specs.Spelling.{HasStatus, IsReply, MayHave, byte_media, head_of, head_text, held_body, json_media, made_body, name_in, parts_of, refusal_fields, reply_bytes, reply_head, shown_body};
+ghost use Rattle.zot_spell.specs.Fields.{subject_fields};
+ghost use Rattle.zot_spell.specs.Spelling.{HasStatus, IsReply, MayHave, head_of, head_text, held_body, made_body, name_in, parts_of, refusal_fields, reply_bytes, reply_head, shown_body};
 
 use crate::bodies::{error_body, page_body};
 use crate::cutting::after;
-use crate::field::{Field, add_type, push_fields};
+use crate::field::{Field, add_field, add_type, push_fields};
+use crate::field_name::FieldName;
 use crate::fields::{
-    add_allow, add_closing, add_digest, add_filter, add_link, add_made, add_size, add_subject,
-    add_upload, add_version,
+    add_closing, add_digest, add_filter, add_link, add_made, add_size, add_upload, methods_text,
 };
-use crate::places::{blob_place, manifest_place};
-use crate::status::push_status;
+use crate::status::status_line;
 use std::alloc::{AllocError, Global};
 use zot_digest::Digest;
 use zot_media::Media;
@@ -74,7 +73,7 @@ pub fn held_body(head: bool, reply: &Reply) -> &[u8]
 }
 
 /// The head of a reply: its status line, its fields and the empty line after them. The bytes of a reply are its head and then its body, which a reply to HEAD leaves out, so a blob's bytes needn't be copied. It fails only where memory does.
-#[tactic(auto, unfolding(crate::specs::Spelling::reply_head))]
+#[tactic(auto, using(crate::proofs::AlikeLemmas::head_alone))]
 pub fn spell_head(
     alloc: Global,
     request: Option<&Request>,
@@ -84,14 +83,10 @@ pub fn spell_head(
     requires { MayHave (option_copied request) reply.now }
     ensures { IfOk result (λ bytes. bytes.items ≡ reply_head (option_copied request.entry) reply.now close) }
 {
-    let name = name_of(request);
-    let made = made_body(alloc, name, reply)?;
-    let body = body_in(name, reply, made.as_str());
-    head_of(alloc, name, reply, body.len() as u64, close)
+    spell_front(alloc, request, reply, true, close)
 }
 
 /// Whether bytes are a reply, after which the connection closes or goes on. A blob, a manifest or an index is neither copied nor spelled. It fails only where memory does.
-#[tactic(auto, unfolding(crate::specs::Spelling::reply_bytes, crate::specs::Spelling::spelled))]
 pub fn is_reply(
     alloc: Global,
     request: Option<&Request>,
@@ -103,13 +98,10 @@ pub fn is_reply(
     ensures yes { IfOk result (λ is. IsTrue is → IsReply (option_copied request.entry) reply.now head bytes.now) }
     ensures no { IfOk result (λ is. IsReply (option_copied request.entry) reply.now head bytes.now → IsTrue is) }
 {
-    let name = name_of(request);
-    let made = made_body(alloc, name, reply)?;
-    let body = body_in(name, reply, made.as_str());
-    let shown = shown_in(head, body);
-    let open = head_of(alloc, name, reply, body.len() as u64, false)?;
-    let closing = head_of(alloc, name, reply, body.len() as u64, true)?;
-    Ok(is_joined(bytes, open.as_slice(), shown) || is_joined(bytes, closing.as_slice(), shown))
+    let held = held_body(head, reply);
+    let open = spell_front(alloc, request, reply, head, false)?;
+    let closing = spell_front(alloc, request, reply, head, true)?;
+    Ok(is_joined(bytes, open.as_slice(), held) || is_joined(bytes, closing.as_slice(), held))
 }
 
 // Whether bytes are these two, one after the other.
@@ -150,7 +142,8 @@ fn head_of(
     ensures { IfOk result (λ bytes. bytes.items ≡ head_of (parts_of name.now reply.now) close) }
 {
     let status = reply_status(name, reply);
-    let mut fields = own_fields(alloc, name, reply)?;
+    let mut fields = Vec::new(alloc);
+    add_own(alloc, &mut fields, name, reply)?;
     add_type(alloc, &mut fields, media_of(name, reply))?;
     add_size(alloc, &mut fields, status, size_of(name, reply, count))?;
     add_closing(alloc, &mut fields, close)?;
@@ -163,8 +156,7 @@ pub fn join_head(alloc: Global, status: u16, fields: &[Field]) -> Result<Vec<u8>
     requires { IsStatusCode status }
     ensures { IfOk result (λ bytes. bytes.items ≡ head_text status fields.now) }
 {
-    let mut out = Vec::new(alloc);
-    push_status(&mut out, status)?;
+    let mut out = status_line(alloc, status)?.into_bytes();
     push_fields(&mut out, fields)?;
     Ok(out)
 }
@@ -182,52 +174,54 @@ fn reply_status(_name: &str, reply: &Reply) -> u16
     }
 }
 
-// A reply's own fields.
-#[tactic(auto, unfolding(crate::specs::Spelling::parts_of))]
-fn own_fields(alloc: Global, name: &str, reply: &Reply) -> Result<Vec<Field>, AllocError>
-    ensures { IfOk result (λ fields. fields.items ≡ (parts_of name.now reply.now).own) }
-{
-    let mut fields = Vec::new(alloc);
-    match reply {
-        Reply::Base => add_version(alloc, &mut fields)?,
-        Reply::Blob { digest, .. }
-        | Reply::BlobHead { digest, .. }
-        | Reply::Manifest { digest, .. }
-        | Reply::ManifestHead { digest, .. } => add_digest(alloc, &mut fields, digest)?,
-        Reply::BlobMade { digest } => {
-            let place = blob_place(alloc, name, digest)?;
-            add_made(alloc, &mut fields, place.as_slice(), digest)?
-        }
-        Reply::Session { id, length, .. } => add_upload(alloc, &mut fields, name, id, *length)?,
-        Reply::ManifestMade { digest, subject } => {
-            add_manifest_made(alloc, &mut fields, name, digest, subject)?
-        }
-        Reply::Tags { next, n, .. } => add_link(alloc, &mut fields, name, *n, next)?,
-        Reply::Referrers { filtered, .. } => add_filter(alloc, &mut fields, *filtered)?,
-        Reply::Deleted => {}
-        Reply::Refused { detail, .. } => add_refusal(alloc, &mut fields, name, detail)?,
-    }
-    Ok(fields)
-}
-
-// Adds the own fields of a manifest that was stored.
-fn add_manifest_made(
+// Adds a reply's own fields.
+#[tactic(auto, unfolding(crate::specs::Spelling::parts_of, crate::specs::Fields::version_field, crate::specs::Fields::blob_place, crate::specs::Fields::manifest_place))]
+fn add_own(
     alloc: Global,
     fields: &mut Vec<Field>,
     name: &str,
-    digest: &Digest,
+    reply: &Reply,
+) -> Result<(), AllocError>
+    ensures { OnOk result (fields.new.items ≡ fields.old.items ++ (parts_of name.now reply.now).own) }
+{
+    match reply {
+        Reply::Base => add_field(alloc, fields, FieldName::ApiVersion, "registry/2.0"),
+        Reply::Blob { digest, .. }
+        | Reply::BlobHead { digest, .. }
+        | Reply::Manifest { digest, .. }
+        | Reply::ManifestHead { digest, .. } => {
+            add_digest(alloc, fields, FieldName::ContentDigest, digest)
+        }
+        Reply::BlobMade { digest } => add_made(alloc, fields, name, "/blobs/", digest),
+        Reply::Session { id, length, .. } => add_upload(alloc, fields, name, id, *length),
+        Reply::ManifestMade { digest, subject } => {
+            add_made(alloc, fields, name, "/manifests/", digest)?;
+            add_subject(alloc, fields, subject)
+        }
+        Reply::Tags { next, n, .. } => add_link(alloc, fields, name, *n, next),
+        Reply::Referrers { filtered, .. } => add_filter(alloc, fields, *filtered),
+        Reply::Deleted => Ok(()),
+        Reply::Refused { detail, .. } => add_refusal(alloc, fields, name, detail),
+    }
+}
+
+// Adds the field that names a manifest's subject, where it has one.
+#[tactic(auto, unfolding(crate::specs::Fields::subject_fields))]
+fn add_subject(
+    alloc: Global,
+    fields: &mut Vec<Field>,
     subject: &Option<Digest>,
 ) -> Result<(), AllocError>
-    ensures { OnOk result (fields.new.items ≡ fields.old.items
-        ++ (location_field (manifest_place name.now digest.now) ∷ (digest_field digest.now ∷ subject_fields subject.now))) }
+    ensures { OnOk result (fields.new.items ≡ fields.old.items ++ subject_fields subject.now) }
 {
-    let place = manifest_place(alloc, name, digest)?;
-    add_made(alloc, fields, place.as_slice(), digest)?;
-    add_subject(alloc, fields, subject)
+    match subject {
+        Some(digest) => add_digest(alloc, fields, FieldName::Subject, digest),
+        None => Ok(()),
+    }
 }
 
 // Adds the own fields of a refusal.
-#[tactic(auto, unfolding(crate::specs::Spelling::refusal_fields))]
+#[tactic(auto, unfolding(crate::specs::Spelling::refusal_fields, crate::specs::Fields::allow_field))]
 fn add_refusal(
     alloc: Global,
     fields: &mut Vec<Field>,
@@ -237,20 +231,20 @@ fn add_refusal(
     ensures { OnOk result (fields.new.items ≡ fields.old.items ++ refusal_fields name.now detail.now) }
 {
     match detail {
-        Detail::Allow(which) => add_allow(alloc, fields, *which),
+        Detail::Allow(which) => add_field(alloc, fields, FieldName::Allow, methods_text(*which)),
         Detail::Session(id, size) => add_upload(alloc, fields, name, id, *size),
         _ => Ok(()),
     }
 }
 
 // The media of a reply's body, where they are named.
-#[tactic(auto, unfolding(crate::specs::Spelling::parts_of))]
+#[tactic(auto, unfolding(crate::specs::Spelling::parts_of, crate::specs::Spelling::byte_media, crate::specs::Spelling::json_media))]
 fn media_of(_name: &str, reply: &Reply) -> Option<&'static str>
     ensures { option_copied result ≡ (parts_of _name.now reply.now).media }
 {
     match reply {
-        Reply::Base | Reply::Tags { .. } | Reply::Refused { .. } => Some(json_media()),
-        Reply::Blob { .. } | Reply::BlobHead { .. } => Some(byte_media()),
+        Reply::Base | Reply::Tags { .. } | Reply::Refused { .. } => Some("application/json"),
+        Reply::Blob { .. } | Reply::BlobHead { .. } => Some("application/octet-stream"),
         Reply::Manifest { media, .. } | Reply::ManifestHead { media, .. } => Some(media.text()),
         Reply::Referrers { .. } => Some(Media::Index.text()),
         Reply::BlobMade { .. }
@@ -304,20 +298,4 @@ fn shown_in(head: bool, body: &[u8]) -> &[u8]
     ensures { result.now ≡ shown_body head body.now }
 {
     if head { b"".as_slice() } else { body }
-}
-
-// The media of a body of bytes.
-#[tactic(auto, unfolding(crate::specs::Spelling::byte_media))]
-fn byte_media() -> &'static str
-    ensures { result.now ≡ byte_media }
-{
-    "application/octet-stream"
-}
-
-// The media of a body of JSON.
-#[tactic(auto, unfolding(crate::specs::Spelling::json_media))]
-fn json_media() -> &'static str
-    ensures { result.now ≡ json_media }
-{
-    "application/json"
 }

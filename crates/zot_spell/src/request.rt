@@ -1,16 +1,16 @@
 //! Requests as they stand on the wire.
-ghost use Rattle.std.specs.Prelude.{◌≡◌, ℕ, ◌++◌, List, [], ◌∷◌, OnOk, IfOk, IsSome, codes, length, option_map, unwrap_or};
+ghost use Rattle.std.specs.Prelude.{◌≡◌, ℕ, ◌++◌, List, [], ◌∷◌, OnOk, IfOk, IsSome, length, option_map, string_bytes};
 ghost use Rattle.std.specs.Fmt.{decimal};
 ghost use Rattle.std.specs.Option.{option_copied};
-ghost use Rattle.zot_digest.specs.Digest.{digest_text};
 ghost use Rattle.zot_model.specs.declared.request.Request.{Request as ARequest};
-ghost use Rattle.zot_spell.specs.Wire.{body_of, fields_given, fields_of, head_of, hop_value, id_text, parts_of, query_text, reference_text, request_bytes, request_head, request_line, span_text, target_text, with_body, with_hop};
+ghost use Rattle.zot_spell.specs.Wire.{body_of, fields_given, fields_of, form_of, head_of, hop_value, id_text, parts_of, query_text, reference_text, request_bytes, request_head, request_line, span_text, target_text, with_body, with_hop};
 
 use crate::field::{Field, add_field, add_length, push_fields};
 use crate::field_name::FieldName;
 use crate::query::form_of;
+use crate::reply::name_of;
+use crate::texts::prefixed;
 use std::alloc::{AllocError, Global};
-use zot_digest::Digest;
 use zot_media::Reference;
 use zot_model::{Call, Request, Span};
 use zot_names::UploadId;
@@ -25,8 +25,7 @@ pub fn spell_request_head(
 ) -> Result<Vec<u8>, AllocError>
     ensures { IfOk result (λ bytes. bytes.items ≡ request_head (with_hop request.now hop) size) }
 {
-    let mut out = Vec::new(alloc);
-    push_request_line(alloc, &mut out, request)?;
+    let mut out = request_line(alloc, request)?.into_bytes();
     let fields = fields_of(alloc, request, hop, size)?;
     push_fields(&mut out, fields.as_slice())?;
     Ok(out)
@@ -70,21 +69,28 @@ pub fn head_then_body()
         → request_bytes (with_body request body) ≡ request_head request (length body) ++ body }
 {}
 
-// Adds the first line.
-#[tactic(auto, unfolding(crate::specs::Wire::request_line))]
-fn push_request_line(alloc: Global, out: &mut Vec<u8>, request: &Request) -> Result<(), AllocError>
-    ensures { OnOk result (out.new.items ≡ out.old.items ++ request_line request.now) }
+// The first line.
+fn request_line(alloc: Global, request: &Request) -> Result<String, AllocError>
+    ensures { IfOk result (λ line. string_bytes line ≡ request_line request.now) }
 {
-    out.extend_from_slice(method_of(&request.call).as_bytes())?;
-    out.extend_from_slice(b" ".as_slice())?;
-    push_target(alloc, out, request)?;
-    out.extend_from_slice(b" HTTP/1.1".as_slice())?;
-    out.extend_from_slice(b"\r\n".as_slice())
+    let name = name_of(Some(request));
+    let method = method_of(&request.call);
+    let path = path_of(alloc, &request.call)?;
+    let query = query_of(alloc, &request.call)?;
+    [
+        method,
+        " /v2/",
+        name,
+        path.as_str(),
+        query.as_str(),
+        " HTTP/1.1\r\n",
+    ]
+    .concat(alloc)
 }
 
 // The method of a call.
 #[tactic(auto, unfolding(crate::specs::Wire::parts_of))]
-fn method_of(call: &Call) -> &'static str
+fn method_of(call: &Call) -> &str
     ensures { result.now ≡ (parts_of call.now).method }
 {
     match call {
@@ -97,111 +103,63 @@ fn method_of(call: &Call) -> &'static str
     }
 }
 
-// Adds the target.
-#[tactic(auto, unfolding(crate::specs::Wire::target_text))]
-fn push_target(alloc: Global, out: &mut Vec<u8>, request: &Request) -> Result<(), AllocError>
-    ensures { OnOk result (out.new.items ≡ out.old.items ++ target_text request.now) }
-{
-    out.extend_from_slice(b"/v2/".as_slice())?;
-    push_name(out, request)?;
-    push_path(alloc, out, &request.call)?;
-    let form = form_of(alloc, &request.call)?;
-    push_query(out, form.as_str())
-}
-
-// Adds the name of the repository, where there is one.
-fn push_name(out: &mut Vec<u8>, request: &Request) -> Result<(), AllocError>
-    ensures { OnOk result (out.new.items ≡ out.old.items ++ unwrap_or request.now.name []) }
-{
-    match &request.name {
-        Some(name) => out.extend_from_slice(name.as_slice()),
-        None => Ok(()),
-    }
-}
-
-// Adds what stands after the name in a call's path.
+// What stands after the name in a call's path.
 #[tactic(auto, unfolding(crate::specs::Wire::parts_of))]
-fn push_path(alloc: Global, out: &mut Vec<u8>, call: &Call) -> Result<(), AllocError>
-    ensures { OnOk result (out.new.items ≡ out.old.items ++ (parts_of call.now).path) }
+fn path_of(alloc: Global, call: &Call) -> Result<String, AllocError>
+    ensures { IfOk result (λ path. string_bytes path ≡ (parts_of call.now).path) }
 {
     match call {
-        Call::Base => Ok(()),
+        Call::Base => Ok(String::new(alloc)),
         Call::GetBlob(digest) | Call::HeadBlob(digest) | Call::DeleteBlob(digest) => {
-            push_under(alloc, out, "/blobs/", digest)
+            prefixed(alloc, "/blobs/", digest.text(alloc)?)
         }
-        Call::Post { .. } => out.extend_from_slice(b"/blobs/uploads/".as_slice()),
+        Call::Post { .. } => String::from_str(alloc, "/blobs/uploads/"),
         Call::Patch { id, .. } | Call::Finish { id, .. } | Call::UploadState { id } => {
-            out.extend_from_slice(b"/blobs/uploads/".as_slice())?;
-            push_id(alloc, out, id)
+            prefixed(alloc, "/blobs/uploads/", id_text(alloc, id)?)
         }
         Call::PutManifest { reference, .. }
         | Call::GetManifest(reference)
         | Call::HeadManifest(reference)
         | Call::DeleteManifest(reference) => {
-            out.extend_from_slice(b"/manifests/".as_slice())?;
-            push_reference(alloc, out, reference)
+            prefixed(alloc, "/manifests/", reference_text(alloc, reference)?)
         }
-        Call::Tags { .. } => out.extend_from_slice(b"/tags/list".as_slice()),
-        Call::Referrers { digest, .. } => push_under(alloc, out, "/referrers/", digest),
+        Call::Tags { .. } => String::from_str(alloc, "/tags/list"),
+        Call::Referrers { digest, .. } => prefixed(alloc, "/referrers/", digest.text(alloc)?),
     }
 }
 
-// Adds a part of a path and the text of a digest.
-fn push_under(
-    alloc: Global,
-    out: &mut Vec<u8>,
-    part: &str,
-    digest: &Digest,
-) -> Result<(), AllocError>
-    ensures { OnOk result (out.new.items ≡ out.old.items ++ (part.now ++ digest_text digest.now)) }
-{
-    out.extend_from_slice(part.as_bytes())?;
-    push_digest(alloc, out, digest)
-}
-
-// Adds the text of a digest.
-fn push_digest(alloc: Global, out: &mut Vec<u8>, digest: &Digest) -> Result<(), AllocError>
-    ensures { OnOk result (out.new.items ≡ out.old.items ++ digest_text digest.now) }
-{
-    let text = digest.text(alloc)?;
-    out.extend_from_slice(text.as_bytes())
-}
-
-// Adds the text of an id.
+// The text of an id.
 #[tactic(auto, unfolding(crate::specs::Wire::id_text))]
-fn push_id(alloc: Global, out: &mut Vec<u8>, id: &Option<UploadId>) -> Result<(), AllocError>
-    ensures { OnOk result (out.new.items ≡ out.old.items ++ id_text id.now) }
+fn id_text(alloc: Global, id: &Option<UploadId>) -> Result<String, AllocError>
+    ensures { IfOk result (λ text. string_bytes text ≡ id_text id.now) }
 {
     match id {
-        Some(id) => {
-            let text = id.text(alloc)?;
-            out.extend_from_slice(text.as_bytes())
-        }
-        None => out.extend_from_slice(b"-".as_slice()),
+        Some(id) => id.text(alloc),
+        None => String::from_str(alloc, "-"),
     }
 }
 
-// Adds the text of a reference.
+// The text of a reference.
 #[tactic(auto, unfolding(crate::specs::Wire::reference_text))]
-fn push_reference(alloc: Global, out: &mut Vec<u8>, reference: &Reference) -> Result<(), AllocError>
-    ensures { OnOk result (out.new.items ≡ out.old.items ++ reference_text reference.now) }
+fn reference_text(alloc: Global, reference: &Reference) -> Result<String, AllocError>
+    ensures { IfOk result (λ text. string_bytes text ≡ reference_text reference.now) }
 {
     match reference {
-        Reference::Tag(tag) => out.extend_from_slice(tag.as_slice()),
-        Reference::Digest(digest) => push_digest(alloc, out, digest),
+        Reference::Tag(tag) => String::from_str(alloc, tag.as_str()),
+        Reference::Digest(digest) => digest.text(alloc),
     }
 }
 
-// Adds a query after its `?`, where there is one.
+// The query of a call after its `?`, where there is one.
 #[tactic(auto, unfolding(crate::specs::Wire::query_text))]
-fn push_query(out: &mut Vec<u8>, form: &str) -> Result<(), AllocError>
-    ensures { OnOk result (out.new.items ≡ out.old.items ++ query_text form.now) }
+fn query_of(alloc: Global, call: &Call) -> Result<String, AllocError>
+    ensures { IfOk result (λ query. string_bytes query ≡ query_text (form_of (parts_of call.now))) }
 {
+    let form = form_of(alloc, call)?;
     if form.is_empty() {
-        Ok(())
+        Ok(form)
     } else {
-        out.extend_from_slice(b"?".as_slice())?;
-        out.extend_from_slice(form.as_bytes())
+        prefixed(alloc, "?", form)
     }
 }
 
@@ -238,7 +196,7 @@ fn add_some(
     ensures { OnOk result (fields.new.items ≡ fields.old.items ++ fields_given ((name, option_copied value.entry) ∷ [])) }
 {
     match value {
-        Some(value) => add_field(alloc, fields, name, value.as_bytes()),
+        Some(value) => add_field(alloc, fields, name, value),
         None => Ok(()),
     }
 }
@@ -274,23 +232,13 @@ fn add_span(alloc: Global, fields: &mut Vec<Field>, span: Option<Span>) -> Resul
 {
     match span {
         Some(span) => {
-            let text = span_text(alloc, span)?;
-            add_field(alloc, fields, FieldName::ContentRange, text.as_slice())
+            let start = span.start.to_string(alloc)?;
+            let end = span.end.to_string(alloc)?;
+            let text = [start.as_str(), "-", end.as_str()].concat(alloc)?;
+            add_field(alloc, fields, FieldName::ContentRange, text.as_str())
         }
         None => Ok(()),
     }
-}
-
-// The text of a range.
-fn span_text(alloc: Global, span: Span) -> Result<Vec<u8>, AllocError>
-    ensures { IfOk result (λ text. text.items ≡ span_text span) }
-{
-    let start = span.start.to_string(alloc)?;
-    let end = span.end.to_string(alloc)?;
-    let mut text = Vec::from_slice(alloc, start.as_bytes())?;
-    text.extend_from_slice(b"-".as_slice())?;
-    text.extend_from_slice(end.as_bytes())?;
-    Ok(text)
 }
 
 // What the field of a request that was handed on says.

@@ -2,13 +2,13 @@
 ghost use Rattle.std.specs.Prelude.{◌≡◌, ◌++◌, ◌∷◌, [], ℕ, List, Some, None, IfOk, IfSome, MatchOption};
 ghost use Rattle.http.specs.StatusCode.{IsStatusCode};
 ghost use Rattle.zot_spell.specs.declared.field.Field.{Field};
-ghost use Rattle.zot_spell.specs.Fields.{status_line};
+ghost use Rattle.zot_spell.specs.Fields.{status_line as status_line_of};
 ghost use Rattle.zot_spell.specs.Heads.{AreFields, IsField, IsFree, field_line, fields_text};
 ghost use Rattle.zot_spell.specs.Spelling.{head_text};
 
 use crate::cutting::{after, cut};
 use crate::field::Field;
-use crate::status::push_status;
+use crate::status::status_line;
 use http::StatusCode;
 use std::alloc::{AllocError, Global};
 use zot_digest::Bytes;
@@ -49,16 +49,15 @@ pub fn split_reply(alloc: Global, bytes: &[u8]) -> Result<Option<SplitReply<'_>>
 // The status line taken off.
 fn split_status(alloc: Global, bytes: &[u8]) -> Result<Option<(u16, &[u8])>, AllocError>
     ensures three { IfOk result (λ found. IfSome found (λ parts. IsStatusCode parts.0)) }
-    ensures joined { IfOk result (λ found. IfSome found (λ parts. bytes.now ≡ status_line parts.0 ++ parts.1.now)) }
-    ensures apart { IfOk result (λ found. (status : ℕ) (rest : List ℕ) → IsStatusCode status → bytes.now ≡ status_line status ++ rest
+    ensures joined { IfOk result (λ found. IfSome found (λ parts. bytes.now ≡ status_line_of parts.0 ++ parts.1.now)) }
+    ensures apart { IfOk result (λ found. (status : ℕ) (rest : List ℕ) → IsStatusCode status → bytes.now ≡ status_line_of status ++ rest
         → MatchOption found ⊥ (λ parts. (parts.0 ≡ status) × (parts.1.now ≡ rest))) }
 {
     let Some(status) = status_in(bytes) else {
         return Ok(None);
     };
-    let mut line = Vec::new(alloc);
-    push_status(&mut line, status)?;
-    match after(bytes, line.as_slice()) {
+    let line = status_line(alloc, status)?;
+    match after(bytes, line.as_bytes()) {
         Some(rest) => Ok(Some((status, rest))),
         None => Ok(None),
     }
@@ -67,7 +66,7 @@ fn split_status(alloc: Global, bytes: &[u8]) -> Result<Option<(u16, &[u8])>, All
 // The status that stands in its place.
 fn status_in(bytes: &[u8]) -> Option<u16>
     ensures three { IfSome result IsStatusCode }
-    ensures found { (status : ℕ) (rest : List ℕ) → IsStatusCode status → bytes.now ≡ status_line status ++ rest → result ≡ Some status }
+    ensures found { (status : ℕ) (rest : List ℕ) → IsStatusCode status → bytes.now ≡ status_line_of status ++ rest → result ≡ Some status }
 {
     if bytes.len() < BEFORE_STATUS + 3 {
         return None;

@@ -1,40 +1,21 @@
 //! Status lines.
-ghost use Rattle.std.specs.Prelude.{◌≡◌, ◌++◌, OnOk};
+ghost use Rattle.std.specs.Prelude.{◌≡◌, IfOk, string_bytes};
 ghost use Rattle.http.specs.StatusCode.{IsStatusCode};
-ghost use Rattle.zot_spell.specs.Fields.{reason, status_digits, status_line};
+ghost use Rattle.zot_spell.specs.Fields.{reason, status_line};
 
 use http::StatusCode;
-use std::alloc::AllocError;
+use std::alloc::{AllocError, Global};
 
-/// Adds a status line.
-pub fn push_status(out: &mut Vec<u8>, status: u16) -> Result<(), AllocError>
+/// The status line of a status.
+#[tactic(auto, unfolding(crate::specs::Fields::status_line, crate::specs::Fields::status_digits))]
+pub fn status_line(alloc: Global, status: u16) -> Result<String, AllocError>
     requires { IsStatusCode status }
-    ensures { OnOk result (out.new.items ≡ out.old.items ++ status_line status) }
+    ensures { IfOk result (λ line. string_bytes line ≡ status_line status) }
 {
-    let Ok(status) = StatusCode::from_u16(status) else {
+    let Ok(code) = StatusCode::from_u16(status) else {
         unreachable!()
     };
-    push_status_line(out, &status)
-}
-
-// Adds the status line of a status.
-#[tactic(auto, unfolding(crate::specs::Fields::status_line))]
-fn push_status_line(out: &mut Vec<u8>, status: &StatusCode) -> Result<(), AllocError>
-    ensures { OnOk result (out.new.items ≡ out.old.items ++ status_line status.now) }
-{
-    out.extend_from_slice(b"HTTP/1.1 ".as_slice())?;
-    out.extend_from_slice(digits_of(status).as_bytes())?;
-    out.extend_from_slice(b" ".as_slice())?;
-    out.extend_from_slice(reason_of(status).as_bytes())?;
-    out.extend_from_slice(b"\r\n".as_slice())
-}
-
-// The digits of a status.
-#[tactic(auto, unfolding(crate::specs::Fields::status_digits))]
-fn digits_of(status: &StatusCode) -> &'static str
-    ensures { result.now ≡ status_digits status.now }
-{
-    status.as_str()
+    ["HTTP/1.1 ", code.as_str(), " ", reason_of(&code), "\r\n"].concat(alloc)
 }
 
 // The reason of a status.

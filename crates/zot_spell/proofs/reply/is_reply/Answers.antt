@@ -1,8 +1,0 @@
-use Rattle.zot_spell.proofs.FitLemmas.{has_status}
-use Rattle.zot_spell.proofs.reply.is_reply.Goals as goal
-
-pub head_of-requires-clause-status : goal.head_of-requires-clause-status
-head_of-requires-clause-status c = has_status _ _ _ c.requires
-
-pub head_of-requires-2-clause-status : goal.head_of-requires-2-clause-status
-head_of-requires-2-clause-status c = has_status _ _ _ c.requires
