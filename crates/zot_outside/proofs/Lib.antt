@@ -1,6 +1,5 @@
-mod FolderLemmas
 pub mod ListingLemmas
 pub mod MomentLemmas
 pub mod ObjectLemmas
-mod PathLemmas
 pub mod StreamLemmas
+pub mod WholeLemmas
