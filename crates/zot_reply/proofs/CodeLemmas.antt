@@ -1,5 +1,5 @@
--- Which refusal it is, by its status and the size of its body.
-use Rattle.std.proofs.Common.{◌≡◌, ◌≢◌, ℕ, zero, suc, ◌+◌, ◌*◌, ◌<◌, ◌≤◌, ◌^◌, ◌==◌, Bool, true, not, ◌&&◌, inl, inr, List, [], ◌∷◌, length, replicate, Some, None, refl, sym, ap, ◌∙◌, arith, slice_index, lit<}
+-- Which code a refusal has, by its status and the size of its body.
+use Rattle.std.proofs.Common.{◌≡◌, ℕ, zero, suc, ◌+◌, ◌*◌, ◌<◌, ◌≤◌, ◌^◌, ◌==◌, Bool, true, not, ◌&&◌, inl, inr, List, [], ◌∷◌, length, replicate, Some, None, refl, sym, ap, ◌∙◌, arith, slice_index, lit<}
 use Rattle.std.proofs.lemmas.Bool.{and_parts}
 use Rattle.std.proofs.lemmas.Bool.Decides.{nat_tests}
 use Rattle.hex.specs.Hex.{encode_with}
@@ -8,16 +8,15 @@ use Rattle.zot_digest.specs.Digest.{IsDigest, digest_text}
 use Rattle.zot_model.specs.declared.call.Call.{Call}
 use Rattle.zot_model.specs.declared.call.Call.TheVariants as calls
 use Rattle.zot_model.specs.declared.code.Code.{Code}
-use Rattle.zot_model.specs.declared.code.Code.TheVariants.{BlobUnknown, BlobUploadInvalid, ManifestBlobUnknown, Unsupported, UpstreamIncomplete, UpstreamInvalid, UpstreamMismatch}
+use Rattle.zot_model.specs.declared.code.Code.TheVariants.{BlobUnknown}
 use Rattle.zot_model.specs.declared.detail.Detail.{Detail}
 use Rattle.zot_model.specs.declared.detail.Detail.TheVariants as details
-use Rattle.zot_model.specs.declared.methods.Methods.TheVariants as methods
-use Rattle.zot_model.specs.Codes.{HasDetail, code_text, message_text, status_of}
+use Rattle.zot_model.specs.Codes.{DetailKind, IsOfKind, code_text, detail_kind, message_text, status_of}
+use Rattle.zot_model.specs.Codes as kinds
 use Rattle.zot_model.specs.Fits.{IsAmong, codes_of}
 use Rattle.zot_spell.specs.Alike.{IsDetail}
 use Rattle.zot_spell.specs.Bodies.{detail_text, error_body, errors_value}
 use Rattle.zot_spell.proofs.AlikeLemmas.{unseen_size}
-use Rattle.zot_reply.proofs.DetailLemmas.{unseen_kind}
 
 -- ---- the sizes of bodies
 
@@ -32,44 +31,28 @@ zero_at (suc n) (suc i) = zero_at n i
 are_zeros : IsDigest zeros
 are_zeros = record { long = refl; bytes = zero_at 32 }
 
--- a detail of each code's kind
-abbrev sample : Code → Detail
-sample BlobUploadInvalid = details.Session 0 0
-sample ManifestBlobUnknown = details.Missing zeros
-sample Unsupported = details.Allow methods.Read
-sample UpstreamMismatch = details.Differ zeros zeros
-sample UpstreamIncomplete = details.Missing zeros
-sample UpstreamInvalid = details.Missing zeros
+-- a detail whose text is as long as that of each detail of the kind
+abbrev sample : DetailKind → Detail
+sample kinds.Missing = details.Missing zeros
+sample kinds.Differ = details.Differ zeros zeros
 sample _ = details.None
 
-sample_kind : (code : Code) → HasDetail code (sample code)
-sample_kind BlobUploadInvalid = tt
-sample_kind ManifestBlobUnknown = tt
-sample_kind Unsupported = refl
-sample_kind UpstreamMismatch = tt
-sample_kind UpstreamIncomplete = tt
-sample_kind UpstreamInvalid = tt
-sample_kind code = tt
-
-sample_digests : (code : Code) → IsDetail (sample code)
-sample_digests BlobUploadInvalid = tt
-sample_digests ManifestBlobUnknown = are_zeros
-sample_digests Unsupported = tt
-sample_digests UpstreamMismatch = (are_zeros, are_zeros)
-sample_digests UpstreamIncomplete = are_zeros
-sample_digests UpstreamInvalid = are_zeros
-sample_digests code = tt
-
 -- how many bytes the body of a refusal with a detail of its kind has
-pub body_size : Code → ℕ
-body_size code = length (error_body code (sample code))
+abbrev pub body_size : Code → ℕ
+body_size code = length (error_body code (sample (detail_kind code)))
 
-pub has_size : (code : Code) (detail : Detail) → code ≢ BlobUploadInvalid → HasDetail code detail → IsDetail detail → length (error_body code detail) ≡ body_size code
-unfolding body_size
-has_size code detail other has digests = unseen_size code detail (sample code) digests (sample_digests code) (unseen_kind code detail (sample code) other has (sample_kind code))
+pub has_size : (code : Code) (kind : DetailKind) (detail : Detail) → IsOfKind kind detail → IsDetail detail → length (error_body code detail) ≡ length (error_body code (sample kind))
+unfolding error_body detail_text
+has_size code kinds.Nothing details.None h is = refl
+has_size code kinds.Missing (details.Missing digest) h is = unseen_size code (details.Missing digest) (details.Missing zeros) is are_zeros tt
+has_size code kinds.Differ (details.Differ wanted found) h is = unseen_size code (details.Differ wanted found) (details.Differ zeros zeros) is (are_zeros, are_zeros) tt
+has_size code kinds.Session (details.Session id size) h is = refl
+has_size code kinds.Reading detail h is = rw h refl
+has_size code kinds.Methods (details.Allow which) h is = refl
+has_size code kind detail h is = absurd h
 
 pub size_small : (code : Code) → body_size code < 2 ^ 64
-unfolding body_size error_body errors_value detail_text code_text message_text escape_byte digest_text encode_with
+unfolding error_body errors_value detail_text code_text message_text escape_byte digest_text encode_with
 size_small BlobUnknown = lit< tt
 size_small code = lit< tt
 
@@ -103,7 +86,7 @@ one_code (code ∷ codes) a b h (inr i) (inl t) e = absurd (new_differs (seen_of
 one_code (code ∷ codes) a b h (inr i) (inr j) e = one_code codes a b (and_parts (is_new (seen_of code) codes) (are_distinct codes) h).1 i j e
 
 pub distinct_codes : (call : Call) → are_distinct (codes_of call) ≡ true
-unfolding body_size error_body errors_value detail_text code_text message_text escape_byte digest_text encode_with
+unfolding error_body errors_value detail_text code_text message_text escape_byte digest_text encode_with
 distinct_codes (calls.Post mount None body) = refl
 distinct_codes (calls.Post mount (Some digest) body) = refl
 distinct_codes (calls.Patch None range body) = refl
@@ -114,13 +97,8 @@ distinct_codes (calls.Finish (Some id) None digest body) = refl
 distinct_codes (calls.Finish (Some id) (Some range) digest body) = refl
 distinct_codes call = refl
 
--- ---- statuses and own fields of refusals
+-- ---- statuses of refusals
 
 pub high_status : (code : Code) → (400 ≤ status_of code) × (status_of code < 1000)
 high_status BlobUnknown = (omega arith, omega arith)
 high_status code = (omega arith, omega arith)
-
--- a range that doesn't go on is refused alone with its status
-pub range_status : (code : Code) → status_of code ≡ 416 → code ≡ BlobUploadInvalid
-range_status BlobUploadInvalid e = refl
-range_status code e = absurd (omega (arith, e))

@@ -1,6 +1,6 @@
 -- The reply that bytes are is found.
 use Rattle.std.proofs.Common.{◌≡◌, inl, inr, ℕ, zero, suc, ◌<◌, Bool, true, false, List, [], ◌∷◌, ◌++◌, length, get_or, Option, Some, None, refl, sym, ap, subst, ◌∙◌, arith, lit<}
-use Rattle.std.specs.Prelude.{IfOk, IsSome, MatchOption, Result, Ok, Err}
+use Rattle.std.specs.Prelude.{IfOk, IfSome, IsSome, MatchOption, Result, Ok, Err, unwrap_or}
 use Rattle.http.specs.StatusCode.{IsStatusCode}
 use Rattle.zot_model.specs.Calls.{is_head}
 use Rattle.zot_model.specs.Codes.{DetailKind, HasDetail, IsOfKind, detail_kind, status_of}
@@ -16,7 +16,8 @@ use Rattle.zot_model.specs.declared.reply.Reply.TheVariants as replies
 use Rattle.zot_model.specs.declared.request.Request.{Request}
 use Rattle.zot_model.specs.Fits.{Fits, FitsCall, IsAmong, IsRefusalOf, IsSuccessOf}
 use Rattle.zot_model.specs.Refusals.{refusal_with}
-use Rattle.zot_model.specs.Values.{IsReal, IsRealDetail}
+use Rattle.zot_model.specs.Values.{HasValues, IsReal, IsRealDetail}
+use Rattle.zot_names.specs.Name.{IsName}
 use Rattle.zot_spell.specs.declared.field.Field.{Field}
 use Rattle.zot_spell.specs.declared.split.SplitReply.{SplitReply}
 use Rattle.zot_spell.specs.Alike.{AreAlike, AreDetailsAlike, AreSeenAlike, AreUnseenAlike}
@@ -24,27 +25,16 @@ use Rattle.zot_spell.specs.Heads.{AreFields, IsFree}
 use Rattle.zot_spell.specs.Spelling.{IsReply, all_fields, head_of, head_text, name_in, parts_of, reply_bytes, shown_body, spelled}
 use Rattle.zot_spell.proofs.AlikeLemmas.{alike_bytes}
 use Rattle.zot_spell.proofs.FitLemmas.{has_status, not_success}
-use Rattle.zot_reply.proofs.AloneLemmas.{alone}
-use Rattle.zot_reply.proofs.DetailLemmas.{real_detail}
-use Rattle.zot_reply.proofs.FieldLemmas.{all_are}
-use Rattle.zot_reply.proofs.ValueLemmas.{seen_says}
-use Rattle.zot_reply.specs.Reading.{Covers, IsRefusedAmong, IsRefusedAs, IsSeen, IsWanted, Says, Seen, Spells, seen_of, seen_with}
+use Rattle.zot_reply.proofs.AloneLemmas.{alone, seen_same}
+use Rattle.zot_reply.proofs.DetailLemmas.{detail_alike, details_self, real_detail}
+use Rattle.zot_reply.proofs.FieldLemmas.{all_are, are_fields, fields_of}
+use Rattle.zot_reply.proofs.TextLemmas.{free_by_test, name_free}
+use Rattle.zot_reply.proofs.ValueLemmas.{seen_says, success_alike}
+use Rattle.zot_reply.specs.Details.{IsDetailFrom}
+use Rattle.zot_reply.specs.Reading.{IsRefusedAmong, IsRefusedAs, IsSuccessFrom, IsWanted, Seen, Spells, seen_of}
 use Rattle.zot_reply.specs.declared.refusals.TheConstants.{CODES}
 
 -- ---- a reply is like itself
-
-seen_self : (detail : Detail) → AreSeenAlike detail detail
-seen_self (details.Session id size) = (refl, refl)
-seen_self detail = refl
-
-unseen_self : (detail : Detail) → AreUnseenAlike detail detail
-unseen_self (details.Session id size) = (refl, refl)
-unseen_self (details.Allow which) = refl
-unseen_self detail = tt
-
-details_self : (head : Bool) (detail : Detail) → AreDetailsAlike head detail detail
-details_self true detail = unseen_self detail
-details_self false detail = seen_self detail
 
 pub alike_self : (head : Bool) (reply : Reply) → IsReal reply → AreAlike head reply reply
 alike_self head (replies.Session id size status) is = (refl, refl, refl)
@@ -141,28 +131,34 @@ some_none found h e = let none = subst (λ o. IsSome o) e h in cc none
 
 -- ---- the parts of the bytes
 
-pub bytes_apart : (request : Request) (bytes : List ℕ) (reply : Reply) (s : Spells request reply bytes)
-    → bytes ≡ head_text (parts_of (name_in (Some request)) reply).status (all_fields (parts_of (name_in (Some request)) reply) s.close) ++ shown_body (is_head request.call) (parts_of (name_in (Some request)) reply).body
-unfolding reply_bytes spelled head_of
-bytes_apart request bytes reply s = s.is
+-- a name that is there has no CR
+named : (name : Option (List ℕ)) → IfSome name IsName → IsFree 13 (unwrap_or name [])
+named None is = free_by_test 13 [] refl
+named (Some name) is = name_free name is
 
-seen_same : (n m : ℕ) (f g : List Field) (b d : List ℕ) → n ≡ m → f ≡ g → b ≡ d → seen_with n f b ≡ seen_with m g d
-seen_same n m f g b d x y z = rw (x, y, z) refl
+in_match : {A : Type 0} {P Q : A → Type 0} (found : Option A) → ((a : A) → P a → Q a) → MatchOption found ⊥ P → MatchOption found ⊥ Q
+in_match (Some a) f m = f a m
+in_match None f m = m
 
--- what is seen of the bytes is what is seen of each reply that they are
-pub wanted : (request : Request) (bytes : List ℕ) (found : Option SplitReply) → IsFree 13 (name_in (Some request))
+-- bytes that are a reply are split, and what is seen of them is what is seen of it
+pub wanted : (request : Request) (bytes : List ℕ) (found : Option SplitReply) → HasValues request
     → ((status : ℕ) (fields : List Field) (body : List ℕ) → IsStatusCode status → AreFields fields → bytes ≡ head_text status fields ++ body
     → MatchOption found ⊥ (λ split. (split.status ≡ status) × (split.fields.items ≡ fields) × (split.body.now ≡ body)))
     → (reply : Reply) → IsReal reply → Spells request reply bytes → MatchOption found ⊥ (λ split. IsWanted request reply bytes (seen_of split))
-wanted request bytes (Some split) free apart reply real s =
+unfolding reply_bytes spelled head_of
+wanted request bytes found values apart reply real s =
     let name = name_in (Some request) in
     let p = parts_of name reply in
-    let m = apart p.status (all_fields p s.close) (shown_body (is_head request.call) p.body) (has_status (Some request) name reply s.fits) (all_are name reply s.close free real) (bytes_apart request bytes reply s) in
-    record { real = real; spells = s; is_seen = (s.close, seen_same split.status p.status split.fields.items (all_fields p s.close) split.body.now (shown_body (is_head request.call) p.body) m.0 m.1 m.2) }
-wanted request bytes None free apart reply real s =
-    let name = name_in (Some request) in
-    let p = parts_of name reply in
-    apart p.status (all_fields p s.close) (shown_body (is_head request.call) p.body) (has_status (Some request) name reply s.fits) (all_are name reply s.close free real) (bytes_apart request bytes reply s)
+    let fields = fields_of name reply s.close in
+    let body = shown_body (is_head request.call) p.body in
+    let are = are_fields name fields (named request.name values.name) (all_are name reply s.close real) in
+    in_match found (λ split m. record { real = real; spells = s; is_seen = (s.close, seen_same split.status p.status split.fields.items fields split.body.now body m.0 m.1 m.2) })
+    (apart p.status fields body (has_status (Some request) name reply s.fits) are s.is)
+
+pub wanted_found : {E : Type 0} (result : Result (Option Reply) E) (request : Request) (bytes : List ℕ) (seen : Seen) → ((reply : Reply) → IsReal reply → Spells request reply bytes → IsWanted request reply bytes seen)
+    → IfOk result (λ f. (reply : Reply) → IsWanted request reply bytes seen → IsSome f) → IfOk result (λ f. (reply : Reply) → IsReal reply → Spells request reply bytes → IsSome f)
+wanted_found (Ok f) request bytes seen is h = λ reply real s. h reply (is reply real s)
+wanted_found (Err e) request bytes seen is h = tt
 
 -- a reply that is found is like each one that the bytes are
 pub found_alike : (request : Request) (bytes : List ℕ) (reply found : Reply) → IsReal reply → IsReal found → Spells request reply bytes → Spells request found bytes → AreAlike (is_head request.call) reply found
@@ -171,10 +167,10 @@ found_alike request bytes reply found x y s t = alone request reply found s.clos
 -- ---- successes
 
 -- what is read as a success is like each success that the bytes are
-pub success_found : (request : Request) (name bytes : List ℕ) (seen : Seen) (found reply : Reply) → Covers (IsSuccessOf request.call) (is_head request.call) name seen found → name ≡ name_in (Some request)
-    → IsSuccessOf request.call reply → IsWanted request reply bytes seen → AreAlike (is_head request.call) reply found
-success_found request name bytes seen found reply covers n success w =
-    covers reply success w.real (subst (λ (r : List ℕ). Says r (is_head request.call) seen reply) (sym n) (seen_says (name_in (Some request)) (is_head request.call) reply seen w.is_seen))
+pub success_found : (request : Request) (bytes : List ℕ) (seen : Seen) (found reply : Reply) → IsSuccessFrom (name_in (Some request)) request.call seen found → IsSuccessOf request.call reply → IsWanted request reply bytes seen
+    → AreAlike (is_head request.call) reply found
+success_found request bytes seen found reply read success w =
+    success_alike (name_in (Some request)) request.call seen reply found success w.real (seen_says (name_in (Some request)) (is_head request.call) reply seen w.is_seen) read
 
 -- ---- refusals
 
@@ -242,11 +238,12 @@ refusal_found (Err e) request bytes seen codes all none h = tt
 
 -- a refusal that is confirmed is found
 pub refusal_confirmed : {E : Type 0} (result : Result (Option Reply) E) (request : Request) (code : Code) (bytes : List ℕ) (seen : Seen) (said : Detail) (status : ℕ) → status ≡ status_of code → IsRealDetail said
-    → ((name : List ℕ) (head : Bool) (detail : Detail) → IsRealDetail detail → HasDetail code detail → IsSeen name head (refusal_with code detail) seen → AreDetailsAlike head detail said)
+    → HasDetail code said → IsDetailFrom code seen said
     → IfOk result (λ f. (other : Reply) → AreAlike (is_head request.call) other (replies.Refused status code said) → Spells request other bytes → IsSome f)
     → IfOk result (λ f. (reply : Reply) → IsRefusedAs code reply → IsWanted request reply bytes seen → IsSome f)
-refusal_confirmed (Ok f) request code bytes seen said status s real covers h = λ reply kind w.
-    for_refusal code (λ (r : Reply). IsWanted request r bytes seen → IsSome f) (λ detail has v.
-    let alike = covers (name_in (Some request)) (is_head request.call) detail v.real has v.is_seen in
+refusal_confirmed (Ok f) request code bytes seen said status s real has read h = λ reply kind w.
+    for_refusal code (λ (r : Reply). IsWanted request r bytes seen → IsSome f) (λ detail is v.
+    let from = subst (λ (z : Seen). IsDetailFrom code z said) v.is_seen.1 read in
+    let alike = detail_alike (name_in (Some request)) code detail said (is_head request.call) v.is_seen.0 is v.real has from in
     h (refusal_with code detail) (sym s, refl, real_detail detail v.real, real_detail said real, alike) v.spells) reply kind w
-refusal_confirmed (Err e) request code bytes seen said status s real covers h = tt
+refusal_confirmed (Err e) request code bytes seen said status s real has read h = tt

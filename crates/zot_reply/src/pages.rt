@@ -8,9 +8,8 @@ ghost use Rattle.zot_reply.specs.Pages.{link_rest, tags_text};
 ghost use Rattle.zot_spell.specs.Bodies.{page_body};
 ghost use Rattle.zot_spell.specs.Fields.{link_text};
 
-use crate::cutting::{after_first, number_of, skip, up_to};
+use crate::cutting::{after_first, number_of, skip, text_of, up_to};
 use std::alloc::{AllocError, Global};
-use std::str;
 use zot_names::{NameError, Tag, TagList};
 use zot_spell::cut;
 
@@ -53,10 +52,7 @@ fn from_number<'a>(name: &str, link: &'a [u8]) -> &'a [u8]
 fn tag_of(alloc: Global, text: &[u8]) -> Result<Option<Tag>, AllocError>
     ensures { IfOk result (λ found. (tag : List ℕ) → IsTag tag → text.now ≡ tag → found ≡ Some tag) }
 {
-    let Ok(text) = str::from_utf8(text) else {
-        return Ok(None);
-    };
-    match Tag::read(alloc, text) {
+    match Tag::read(alloc, text_of(text)) {
         Ok(tag) => Ok(Some(tag)),
         Err(NameError::Bad) => Ok(None),
         Err(NameError::NoMemory) => Err(AllocError),

@@ -14,4 +14,4 @@ returns-then-status-split-clause-whole c = λ reply kind w.
 pub returns-clause-whole : goal.returns-clause-whole
 returns-clause-whole c =
     refusal_confirmed c.confirm.result c.args.request.now c.args.code c.args.bytes.now (seen_of c.args.split.now) c.detail_of-detail.result c.status-status.result
-    c.status-status.ensures c.real_values.ensures c.detail_of-detail.ensures c.confirm.ensures.whole
+    c.status-status.ensures c.real_values.ensures c.detail_of-detail.ensures.kind c.detail_of-detail.ensures.read c.confirm.ensures.whole

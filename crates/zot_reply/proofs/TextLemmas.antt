@@ -1,0 +1,146 @@
+-- Texts without a byte, and texts that are UTF-8.
+use Rattle.std.proofs.Common.{◌≡◌, ℕ, zero, suc, ◌+◌, ◌<◌, ◌≤◌, ◌/◌, ◌%◌, ◌==◌, Bool, true, false, not, ◌&&◌, if◌then◌else◌, nat_lt, inl, inr, List, [], ◌∷◌, length, refl, ap, arith, slice_index}
+use Rattle.std.specs.Fmt.{decimal, digit_glyph, digits, digits_onto}
+use Rattle.std.specs.Int.{w64, to_be_bytes}
+use Rattle.std.specs.List.{AllPass}
+use Rattle.std.specs.Prelude.{All, IsUtf8}
+use Rattle.std.proofs.lemmas.Bool.{and_parts, cases_lt, eqb-true}
+use Rattle.std.proofs.lemmas.Bool.Decides.{nat_tests}
+use Rattle.std.proofs.lemmas.List.{get_or_past}
+use Rattle.std.proofs.lemmas.List.Elements.{All-cons, All-nil}
+use Rattle.std.proofs.lemmas.Str.{IsUtf8-from_ascii}
+use Rattle.hex.proofs.HexLemmas.{IsAscii-encode_with}
+use Rattle.hex.specs.Hex.{encode_with, lower_digits}
+use Rattle.json.proofs.Printed.Utf8.{IsUtf8-are_ascii}
+use Rattle.zot_digest.proofs.DigestLemmas.{passes-at, passes_below}
+use Rattle.zot_digest.specs.Digest.{algorithm, digest_text}
+use Rattle.zot_media.specs.declared.media.Media.{Media}
+use Rattle.zot_media.specs.declared.media.Media.TheVariants.{Image}
+use Rattle.zot_media.specs.Media.{media_text}
+use Rattle.zot_names.proofs.ByteLemmas.{name_bytes, tag_bytes}
+use Rattle.zot_names.specs.Name.{IsName, is_name_byte}
+use Rattle.zot_names.specs.Tag.{IsTag, is_tag_byte}
+use Rattle.zot_names.specs.Upload.{upload_text}
+use Rattle.zot_spell.specs.Heads.{IsFree}
+use Rattle.zot_spell.proofs.CutLemmas.{free_append, free_cons}
+
+-- ---- texts without a byte
+
+abbrev pub is_free : ℕ → List ℕ → Bool
+is_free end [] = true
+is_free end (c ∷ text) = not (c == end) && is_free end text
+
+is_not : (b : Bool) → not b ≡ true → b ≡ false
+is_not true h = cc h
+is_not false h = refl
+
+pub free_by_test : (end : ℕ) (text : List ℕ) → is_free end text ≡ true → IsFree end text
+free_by_test end [] h = λ k lt. absurd (omega (arith, lt))
+free_by_test end (c ∷ text) h =
+    let p = and_parts (not (c == end)) (is_free end text) h in
+    free_cons end c text (is_not (c == end) p.0) (free_by_test end text p.1)
+
+not_true : (b : Bool) → (b ≡ true → ⊥) → b ≡ false
+not_true true h = absurd (h refl)
+not_true false h = refl
+
+differs : (test : ℕ → Bool) (end c : ℕ) → test end ≡ false → test c ≡ true → (c == end) ≡ false
+differs test end c isnt is = not_true (c == end) (λ e. let same : test c ≡ test end = ap test (eqb-true c end e) in cc (isnt, is, same))
+
+-- a text whose bytes pass a test that the end doesn't pass
+pub free_by : (test : ℕ → Bool) (end : ℕ) (text : List ℕ) → test end ≡ false → AllPass test text → IsFree end text
+free_by test end text isnt all = λ k lt. differs test end (slice_index text k) isnt (all k 0 lt)
+
+pub tag_free : (end : ℕ) (tag : List ℕ) → is_tag_byte end ≡ false → IsTag tag → IsFree end tag
+tag_free end tag isnt is = free_by is_tag_byte end tag isnt (tag_bytes tag is)
+
+pub name_free : (name : List ℕ) → IsName name → IsFree 13 name
+name_free name is = free_by is_name_byte 13 name refl (name_bytes name is)
+
+pub media_free : (media : Media) → IsFree 13 (media_text media)
+unfolding media_text
+media_free Image = free_by_test 13 (media_text Image) refl
+media_free media = free_by_test 13 (media_text media) refl
+
+-- ---- hexadecimal digits
+
+digit_passes : (test : ℕ → Bool) → passes_below (λ i. test (slice_index lower_digits i)) 16 ≡ true → test 0 ≡ true → (k : ℕ) → test (slice_index lower_digits k) ≡ true
+digit_passes test all past k =
+    elim (cases_lt k 16) [
+      | inl below ↦ passes-at (λ i. test (slice_index lower_digits i)) 16 k all below
+      | inr above ↦ rw (get_or_past lower_digits k 0 above) past
+    ]
+
+isnt_cr : ℕ → Bool
+isnt_cr c = not (c == 13)
+
+hex_pass : (bytes : List ℕ) → AllPass isnt_cr (encode_with lower_digits bytes)
+unfolding encode_with isnt_cr
+hex_pass [] = All-nil (λ c. isnt_cr c ≡ true)
+hex_pass (b ∷ bytes) =
+    All-cons (λ c. isnt_cr c ≡ true) (slice_index lower_digits (b / 16)) (slice_index lower_digits (b % 16) ∷ encode_with lower_digits bytes) (digit_passes isnt_cr refl refl (b / 16))
+    (All-cons (λ c. isnt_cr c ≡ true) (slice_index lower_digits (b % 16)) (encode_with lower_digits bytes) (digit_passes isnt_cr refl refl (b % 16)) (hex_pass bytes))
+
+hex_free : (bytes : List ℕ) → IsFree 13 (encode_with lower_digits bytes)
+unfolding isnt_cr
+hex_free bytes = free_by isnt_cr 13 (encode_with lower_digits bytes) refl (hex_pass bytes)
+
+pub digest_free : (digest : List ℕ) → IsFree 13 (digest_text digest)
+unfolding digest_text
+digest_free digest = free_append 13 algorithm (encode_with lower_digits digest) (free_by_test 13 algorithm refl) (hex_free digest)
+
+pub upload_free : (id : ℕ) → IsFree 13 (upload_text id)
+unfolding upload_text
+upload_free id = hex_free _
+
+-- ---- decimal digits
+
+abbrev IsHigh : ℕ → Type 0
+IsHigh c = 48 ≤ c
+
+high_either : (t : Bool) (a b : List ℕ) → All IsHigh a → All IsHigh b → All IsHigh (if t then a else b)
+high_either true a b h k = h
+high_either false a b h k = k
+
+glyph_either : (t : Bool) (d : ℕ) → 48 ≤ (if t then 48 + d else 87 + d)
+glyph_either true d = omega arith
+glyph_either false d = omega arith
+
+high_onto : (k n : ℕ) (text : List ℕ) → All IsHigh text → All IsHigh (digits_onto k 10 false n text)
+high_onto zero n text h = h
+high_onto (suc k) n text h =
+    let more = All-cons IsHigh (digit_glyph false (n % 10)) text (glyph_either (nat_lt (n % 10) 10) (n % 10)) h in
+    high_either (n / 10 == 0) (digit_glyph false (n % 10) ∷ text) (digits_onto k 10 false (n / 10) (digit_glyph false (n % 10) ∷ text)) more
+    (high_onto k (n / 10) (digit_glyph false (n % 10) ∷ text) more)
+
+low_differs : (end c : ℕ) → end < 48 → 48 ≤ c → (c == end) ≡ false
+low_differs end c low high = grind (arith, nat_tests)
+
+-- no digit is a byte that is lower than they are
+pub decimal_free : (end n : ℕ) → end < 48 → IsFree end (decimal n)
+unfolding digits
+decimal_free end n low = λ k lt. low_differs end (slice_index (decimal n) k) low (high_onto 64 n [] (All-nil IsHigh) k 0 lt)
+
+-- ---- texts that are UTF-8
+
+pub media_is_text : (media : Media) → IsUtf8 (media_text media)
+unfolding media_text
+media_is_text Image = IsUtf8-are_ascii (media_text Image) refl
+media_is_text media = IsUtf8-are_ascii (media_text media) refl
+
+small_byte : (c : ℕ) → nat_lt c 128 ≡ true → c < 128
+small_byte c h = grind (arith, nat_tests)
+
+pub id_is_text : (id : ℕ) → IsUtf8 (upload_text id)
+unfolding upload_text
+id_is_text id = IsUtf8-from_ascii _ (IsAscii-encode_with lower_digits (to_be_bytes w64 id) (λ i. small_byte (slice_index lower_digits i) (digit_passes (λ c. nat_lt c 128) refl refl i)))
+
+tag_byte_small : (c : ℕ) → is_tag_byte c ≡ true → c < 128
+tag_byte_small c h = grind (arith, nat_tests)
+
+pub tag_is_text : (tag : List ℕ) → IsTag tag → IsUtf8 tag
+tag_is_text tag is =
+    IsUtf8-from_ascii tag (λ i. elim (cases_lt i (length tag)) [
+      | inl below ↦ tag_byte_small (slice_index tag i) (tag_bytes tag is i 0 below)
+      | inr above ↦ rw (get_or_past tag i 0 above) (omega arith)
+    ])
