@@ -115,7 +115,7 @@ apart name call a b head c k h g e = let status = ap (λ (s : Seen). s.status) e
 seen_alike : (name : List ℕ) (call : Call) (a b : Reply) (c k : Bool) → FitsCall call a → FitsCall call b → IsReal a → IsReal b → seen_in name a (is_head call) c ≡ seen_in name b (is_head call) k → AreAlike (is_head call) a b
 seen_alike name call a b c k (inl h) (inl g) x y e =
     let other = subst (λ (s : Seen). Says name (is_head call) s b) (sym e) (says name b (is_head call) k) in
-    success_alike name call _ a b h x (says name a (is_head call) c) (success_back name call _ b g y other)
+    (success_alike name call _ a b h x (says name a (is_head call) c) (success_back name call _ b g y other)).0
 seen_alike name call a b c k (inl h) (inr g) x y e = absurd (apart name call a b (is_head call) c k h g e)
 seen_alike name call a b c k (inr h) (inl g) x y e = absurd (apart name call b a (is_head call) k c g h (sym e))
 seen_alike name call a b c k (inr h) (inr g) x y e = refusals_alike name call a b (is_head call) c k h g x y e

@@ -19,7 +19,7 @@ use Rattle.zot_spell.proofs.AlikeLemmas.{differ_plain, digest_length}
 use Rattle.zot_spell.proofs.CutLemmas.{cut_front, same_long}
 use Rattle.zot_spell.proofs.PlainLemmas.{IsPlain, plain_digest, plain_text}
 use Rattle.zot_reply.specs.Details.{FindsDigest, IsDetailFrom, detail_front}
-use Rattle.zot_reply.specs.Reading.{Seen, seen_in}
+use Rattle.zot_reply.specs.Reading.{seen_in}
 use Rattle.zot_reply.proofs.ValueLemmas.{finds_id, finds_size, refusal_says, same_digest}
 
 -- ---- bodies with a detail

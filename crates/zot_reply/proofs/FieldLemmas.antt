@@ -5,7 +5,7 @@ use Rattle.std.specs.List.{AllByRecursion}
 use Rattle.std.specs.Prelude.{IfSome, codes}
 use Rattle.std.specs.Str.{bytes_eq}
 use Rattle.std.proofs.lemmas.List.{append_assoc}
-use Rattle.zot_digest.specs.Digest.{digest_text}
+use Rattle.zot_digest.specs.Digest.{IsDigest, digest_text}
 use Rattle.zot_media.specs.declared.media.Media.TheVariants.{Index}
 use Rattle.zot_media.specs.Media.{media_text}
 use Rattle.zot_model.specs.declared.detail.Detail.{Detail}
@@ -22,7 +22,7 @@ use Rattle.zot_spell.specs.declared.field.Field.{Field}
 use Rattle.zot_spell.specs.declared.field_name.FieldName.{FieldName}
 use Rattle.zot_spell.specs.declared.field_name.FieldName.TheVariants as names
 use Rattle.zot_spell.specs.Fields.{allow_field, blob_place, closing_fields, filter_fields, length_fields, link_fields, link_text, manifest_place, methods_text, range_text, subject_fields, upload_fields, upload_place, version_field}
-use Rattle.zot_spell.specs.Heads.{AreFields, IsField, IsFree, field_of, fields_text, length_field_of, name_text, type_fields}
+use Rattle.zot_spell.specs.Heads.{AreFields, IsFree, field_of, fields_text, length_field_of, name_text, type_fields}
 use Rattle.zot_spell.specs.Spelling.{all_fields, base_body, byte_media, json_media, parts_of, refusal_fields}
 use Rattle.zot_spell.proofs.CutLemmas.{cut_front, free_append, same_ended}
 use Rattle.zot_reply.proofs.PageLemmas.{link_front, link_is, link_rest_free}
@@ -59,9 +59,9 @@ place_own : (name part text : List ℕ) → IsFree 13 part → IsFree 13 text �
 unfolding name_text
 place_own name part text f g = own name names.Location (codes "/v2/" ++ name ++ part ++ text) (part ++ text) (append_assoc (codes "/v2/" ++ name) part text) (free_append 13 part text f g)
 
-content_own : (name digest : List ℕ) → IsOwn name (field_of names.ContentDigest (digest_text digest))
+content_own : (name digest : List ℕ) → IsDigest digest → IsOwn name (field_of names.ContentDigest (digest_text digest))
 unfolding name_text
-content_own name digest = own name names.ContentDigest (digest_text digest) (digest_text digest) refl (digest_free digest)
+content_own name digest is = own name names.ContentDigest (digest_text digest) (digest_text digest) refl (digest_free digest is)
 
 upload_are : (name : List ℕ) (id size : ℕ) (more : List Field) → AreOwn name more → AreOwn name (upload_fields name id size ++ more)
 unfolding upload_fields upload_place range_text name_text
@@ -78,10 +78,10 @@ unfolding link_fields name_text
 link_are name n None more is all = all
 link_are name n (Some tag) more is all = (own name names.Link (link_text name n tag) (link_rest n tag) (link_is name n tag) (link_rest_free n tag is), all)
 
-subject_are : (name : List ℕ) (subject : Option (List ℕ)) (more : List Field) → AreOwn name more → AreOwn name (subject_fields subject ++ more)
+subject_are : (name : List ℕ) (subject : Option (List ℕ)) (more : List Field) → IfSome subject IsDigest → AreOwn name more → AreOwn name (subject_fields subject ++ more)
 unfolding subject_fields name_text
-subject_are name None more all = all
-subject_are name (Some digest) more all = (own name names.Subject (digest_text digest) (digest_text digest) refl (digest_free digest), all)
+subject_are name None more is all = all
+subject_are name (Some digest) more is all = (own name names.Subject (digest_text digest) (digest_text digest) refl (digest_free digest is), all)
 
 filter_are : (name : List ℕ) (filtered : Bool) (more : List Field) → AreOwn name more → AreOwn name (filter_fields filtered ++ more)
 unfolding filter_fields name_text
@@ -132,14 +132,14 @@ fields_of name reply close = all_fields (parts_of name reply) close
 pub all_are : (name : List ℕ) (reply : Reply) (close : Bool) → IsReal reply → AreOwn name (fields_of name reply close)
 unfolding parts_of all_fields type_fields version_field blob_place manifest_place name_text
 all_are name replies.Base close is = (own name names.ApiVersion (codes "registry/2.0") (codes "registry/2.0") refl (free_by_test 13 (codes "registry/2.0") refl), typed_are name json_media 200 (length base_body) close json_free)
-all_are name (replies.Blob digest bytes) close is = (content_own name digest, typed_are name byte_media 200 (length bytes) close byte_free)
-all_are name (replies.BlobHead digest size) close is = (content_own name digest, typed_are name byte_media 200 size close byte_free)
-all_are name (replies.BlobMade digest) close is = (place_own name (codes "/blobs/") (digest_text digest) (free_by_test 13 (codes "/blobs/") refl) (digest_free digest), (content_own name digest, tail_are name 201 0 close))
+all_are name (replies.Blob digest bytes) close is = (content_own name digest is, typed_are name byte_media 200 (length bytes) close byte_free)
+all_are name (replies.BlobHead digest size) close is = (content_own name digest is.0, typed_are name byte_media 200 size close byte_free)
+all_are name (replies.BlobMade digest) close is = (place_own name (codes "/blobs/") (digest_text digest) (free_by_test 13 (codes "/blobs/") refl) (digest_free digest is), (content_own name digest is, tail_are name 201 0 close))
 all_are name (replies.Session id size status) close is = upload_are name id size _ (tail_are name status 0 close)
 all_are name (replies.ManifestMade digest subject) close is =
-    (place_own name (codes "/manifests/") (digest_text digest) (free_by_test 13 (codes "/manifests/") refl) (digest_free digest), (content_own name digest, subject_are name subject _ (tail_are name 201 0 close)))
-all_are name (replies.Manifest digest media bytes) close is = (content_own name digest, typed_are name (media_text media) 200 (length bytes) close (media_free media))
-all_are name (replies.ManifestHead digest media size) close is = (content_own name digest, typed_are name (media_text media) 200 size close (media_free media))
+    (place_own name (codes "/manifests/") (digest_text digest) (free_by_test 13 (codes "/manifests/") refl) (digest_free digest is.0), (content_own name digest is.0, subject_are name subject _ is.1 (tail_are name 201 0 close)))
+all_are name (replies.Manifest digest media bytes) close is = (content_own name digest is, typed_are name (media_text media) 200 (length bytes) close (media_free media))
+all_are name (replies.ManifestHead digest media size) close is = (content_own name digest is.0, typed_are name (media_text media) 200 size close (media_free media))
 all_are name (replies.Tags tags next n) close is = link_are name n next _ is.1 (typed_are name json_media 200 (length (page_body name tags)) close json_free)
 all_are name (replies.Referrers text filtered) close is = filter_are name filtered _ (typed_are name (media_text Index) 200 (length text) close (media_free Index))
 all_are name replies.Deleted close is = tail_are name 202 0 close

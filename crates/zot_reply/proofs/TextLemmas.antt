@@ -3,21 +3,21 @@ use Rattle.std.proofs.Common.{◌≡◌, ℕ, zero, suc, ◌+◌, ◌<◌, ◌�
 use Rattle.std.specs.Fmt.{decimal, digit_glyph, digits, digits_onto}
 use Rattle.std.specs.Int.{w64, to_be_bytes}
 use Rattle.std.specs.List.{AllPass}
-use Rattle.std.specs.Prelude.{All, IsUtf8}
+use Rattle.std.specs.Prelude.{All, IsOk, IsUtf8, Ok}
 use Rattle.std.proofs.lemmas.Bool.{and_parts, cases_lt, eqb-true}
 use Rattle.std.proofs.lemmas.Bool.Decides.{nat_tests}
 use Rattle.std.proofs.lemmas.List.{get_or_past}
 use Rattle.std.proofs.lemmas.List.Elements.{All-cons, All-nil}
 use Rattle.std.proofs.lemmas.Str.{IsUtf8-from_ascii}
-use Rattle.hex.proofs.HexLemmas.{IsAscii-encode_with}
-use Rattle.hex.specs.Hex.{encode_with, lower_digits}
+use Rattle.hex.proofs.HexLemmas.{IsOk-decode_sized, decode_sized-encode_lower}
+use Rattle.hex.specs.Hex.{decode_sized, encode_lower, is_hex_digit}
 use Rattle.json.proofs.Printed.Utf8.{IsUtf8-are_ascii}
-use Rattle.zot_digest.proofs.DigestLemmas.{passes-at, passes_below}
-use Rattle.zot_digest.specs.Digest.{algorithm, digest_text}
+use Rattle.zot_digest.specs.Digest.{IsDigest, algorithm, digest_text}
 use Rattle.zot_media.specs.declared.media.Media.{Media}
 use Rattle.zot_media.specs.declared.media.Media.TheVariants.{Image}
 use Rattle.zot_media.specs.Media.{media_text}
 use Rattle.zot_names.proofs.ByteLemmas.{name_bytes, tag_bytes}
+use Rattle.zot_names.proofs.UploadLemmas.{decode_sized-upload_text}
 use Rattle.zot_names.specs.Name.{IsName, is_name_byte}
 use Rattle.zot_names.specs.Tag.{IsTag, is_tag_byte}
 use Rattle.zot_names.specs.Upload.{upload_text}
@@ -64,34 +64,19 @@ media_free media = free_by_test 13 (media_text media) refl
 
 -- ---- hexadecimal digits
 
-digit_passes : (test : ℕ → Bool) → passes_below (λ i. test (slice_index lower_digits i)) 16 ≡ true → test 0 ≡ true → (k : ℕ) → test (slice_index lower_digits k) ≡ true
-digit_passes test all past k =
-    elim (cases_lt k 16) [
-      | inl below ↦ passes-at (λ i. test (slice_index lower_digits i)) 16 k all below
-      | inr above ↦ rw (get_or_past lower_digits k 0 above) past
-    ]
+hex_digits : (text : List ℕ) (n : ℕ) (bytes : List ℕ) → decode_sized text n ≡ Ok bytes → AllPass is_hex_digit text
+hex_digits text n bytes e = let is_read : IsOk (decode_sized text n) = rw e refl in ((IsOk-decode_sized text n).0 is_read).1
 
-isnt_cr : ℕ → Bool
-isnt_cr c = not (c == 13)
-
-hex_pass : (bytes : List ℕ) → AllPass isnt_cr (encode_with lower_digits bytes)
-unfolding encode_with isnt_cr
-hex_pass [] = All-nil (λ c. isnt_cr c ≡ true)
-hex_pass (b ∷ bytes) =
-    All-cons (λ c. isnt_cr c ≡ true) (slice_index lower_digits (b / 16)) (slice_index lower_digits (b % 16) ∷ encode_with lower_digits bytes) (digit_passes isnt_cr refl refl (b / 16))
-    (All-cons (λ c. isnt_cr c ≡ true) (slice_index lower_digits (b % 16)) (encode_with lower_digits bytes) (digit_passes isnt_cr refl refl (b % 16)) (hex_pass bytes))
-
-hex_free : (bytes : List ℕ) → IsFree 13 (encode_with lower_digits bytes)
-unfolding isnt_cr
-hex_free bytes = free_by isnt_cr 13 (encode_with lower_digits bytes) refl (hex_pass bytes)
-
-pub digest_free : (digest : List ℕ) → IsFree 13 (digest_text digest)
+pub digest_free : (digest : List ℕ) → IsDigest digest → IsFree 13 (digest_text digest)
 unfolding digest_text
-digest_free digest = free_append 13 algorithm (encode_with lower_digits digest) (free_by_test 13 algorithm refl) (hex_free digest)
+digest_free digest is =
+    free_append 13 algorithm (encode_lower digest) (free_by_test 13 algorithm refl) (free_by is_hex_digit 13 (encode_lower digest) refl (hex_digits (encode_lower digest) 32 digest (decode_sized-encode_lower digest 32 is.long is.bytes)))
+
+id_digits : (id : ℕ) → AllPass is_hex_digit (upload_text id)
+id_digits id = hex_digits (upload_text id) 8 (to_be_bytes w64 id) (decode_sized-upload_text id)
 
 pub upload_free : (id : ℕ) → IsFree 13 (upload_text id)
-unfolding upload_text
-upload_free id = hex_free _
+upload_free id = free_by is_hex_digit 13 (upload_text id) refl (id_digits id)
 
 -- ---- decimal digits
 
@@ -128,19 +113,15 @@ unfolding media_text
 media_is_text Image = IsUtf8-are_ascii (media_text Image) refl
 media_is_text media = IsUtf8-are_ascii (media_text media) refl
 
-small_byte : (c : ℕ) → nat_lt c 128 ≡ true → c < 128
-small_byte c h = grind (arith, nat_tests)
+text_by : (test : ℕ → Bool) → ((c : ℕ) → test c ≡ true → c < 128) → (text : List ℕ) → AllPass test text → IsUtf8 text
+text_by test small text all =
+    IsUtf8-from_ascii text (λ i. elim (cases_lt i (length text)) [
+      | inl below ↦ small (slice_index text i) (all i 0 below)
+      | inr above ↦ rw (get_or_past text i 0 above) (omega arith)
+    ])
 
 pub id_is_text : (id : ℕ) → IsUtf8 (upload_text id)
-unfolding upload_text
-id_is_text id = IsUtf8-from_ascii _ (IsAscii-encode_with lower_digits (to_be_bytes w64 id) (λ i. small_byte (slice_index lower_digits i) (digit_passes (λ c. nat_lt c 128) refl refl i)))
-
-tag_byte_small : (c : ℕ) → is_tag_byte c ≡ true → c < 128
-tag_byte_small c h = grind (arith, nat_tests)
+id_is_text id = text_by is_hex_digit (λ c h. grind (arith, nat_tests)) (upload_text id) (id_digits id)
 
 pub tag_is_text : (tag : List ℕ) → IsTag tag → IsUtf8 tag
-tag_is_text tag is =
-    IsUtf8-from_ascii tag (λ i. elim (cases_lt i (length tag)) [
-      | inl below ↦ tag_byte_small (slice_index tag i) (tag_bytes tag is i 0 below)
-      | inr above ↦ rw (get_or_past tag i 0 above) (omega arith)
-    ])
+tag_is_text tag is = text_by is_tag_byte (λ c h. grind (arith, nat_tests)) tag (tag_bytes tag is)

@@ -1,9 +1,8 @@
 -- The values that are seen of replies, and those that are read of them.
-use Rattle.std.proofs.Common.{◌≡◌, ◌≢◌, ℕ, ◌-◌, ◌<◌, ◌^◌, Bool, true, false, List, Option, Some, None, refl, sym, ap, ap₂, subst, ◌∙◌, arith}
+use Rattle.std.proofs.Common.{◌≡◌, ℕ, ◌-◌, Bool, true, false, List, Option, Some, None, refl, sym, ap, ap₂, subst, ◌∙◌, arith}
 use Rattle.std.specs.Fmt.{decimal}
 use Rattle.std.specs.Int.{w64, from_be_bytes, to_be_bytes}
-use Rattle.std.specs.List.{AllByRecursion}
-use Rattle.std.specs.Prelude.{IfSome, codes, is_some, option_and_then, option_map, ⊤}
+use Rattle.std.specs.Prelude.{IfSome, codes, option_and_then, option_map, ⊤}
 use Rattle.std.proofs.lemmas.Fmt.{decimal_injective}
 use Rattle.std.proofs.lemmas.Nat.{from_be_bytes-to_be_bytes_8}
 use Rattle.hex.specs.Hex.{decode_sized}
@@ -25,16 +24,15 @@ use Rattle.zot_model.specs.Values.{IsReal, IsWord}
 use Rattle.zot_names.proofs.UploadLemmas.{decode_sized-upload_text}
 use Rattle.zot_names.specs.Tag.{IsTag}
 use Rattle.zot_names.specs.Upload.{upload_text}
-use Rattle.zot_spell.specs.Alike.{AreAlike, ArePagesAlike, AreSizesAlike}
-use Rattle.zot_spell.specs.Bodies.{page_body}
+use Rattle.zot_spell.specs.Alike.{AreAlike, ArePagesAlike}
 use Rattle.zot_spell.specs.declared.field_name.FieldName.{FieldName}
 use Rattle.zot_spell.specs.declared.field_name.FieldName.TheVariants as names
 use Rattle.zot_spell.specs.Fields.{closing_fields, filter_fields, length_fields, link_fields, link_text, range_text, subject_fields, upload_fields}
-use Rattle.zot_spell.specs.Heads.{field_of, length_field_of, name_text, type_fields, value_in}
+use Rattle.zot_spell.specs.Heads.{field_of, length_field_of, name_text, type_fields}
 use Rattle.zot_spell.specs.Spelling.{all_fields, parts_of, refusal_fields, shown_body}
 use Rattle.zot_spell.proofs.CutLemmas.{cut_front}
 use Rattle.zot_reply.proofs.PageLemmas.{same_link, same_pages}
-use Rattle.zot_reply.specs.Reading.{Finds, FindsNext, FindsSize, FindsTags, Has, IsKindOf, IsPageFrom, IsPosting, IsReadFrom, IsSeen, IsSuccessFrom, IsUpload, Says, Seen, seen_in}
+use Rattle.zot_reply.specs.Reading.{Finds, FindsSize, Has, IsKindOf, IsPageFrom, IsPosting, IsReadFrom, IsSeen, IsSuccessFrom, IsUpload, Says, Seen, seen_in}
 
 -- what is seen of a reply says its values
 pub says : (name : List ℕ) (reply : Reply) (head close : Bool) → Says name head (seen_in name reply head close) reply
@@ -194,19 +192,21 @@ blobs_made name seen (replies.BlobMade d) (replies.BlobMade f) h real says k rea
 blobs_made name seen (replies.BlobMade d) b h real says k read = absurd k
 blobs_made name seen a b h real says k read = absurd h
 
-uploads : (status : ℕ) → AreReadAlike false (IsSession status) IsUpload
-uploads status name seen (replies.Session i n s) (replies.Session j m t) h real says k read = (read.0 i real.0 says.0, read.1 n real.1 says.1, sym says.2 ∙ sym read.2)
+uploads : (status : ℕ) (name : List ℕ) (seen : Seen) (a b : Reply) → IsSession status a → IsReal a → Says name false seen a → IsUpload b → IsReadFrom seen b → AreAlike false a b × IsSession status b
+uploads status name seen (replies.Session i n s) (replies.Session j m t) h real says k read = ((read.0 i real.0 says.0, read.1 n real.1 says.1, sym says.2 ∙ sym read.2), read.2 ∙ says.2 ∙ h)
 uploads status name seen (replies.Session i n s) b h real says k read = absurd k
 uploads status name seen a b h real says k read = absurd h
 
-postings : (name : List ℕ) (seen : Seen) (a b : Reply) → IsPosting seen a → IsReal a → Says name false seen a → IsPosting seen b → IsReadFrom seen b → AreAlike false a b
-postings name seen (replies.BlobMade d) (replies.BlobMade f) h real says k read = blobs_made name seen (replies.BlobMade d) (replies.BlobMade f) tt real says tt read
-postings name seen (replies.Session i n s) (replies.Session j m t) h real says k read = uploads s name seen (replies.Session i n s) (replies.Session j m t) refl real says tt read
-postings name seen (replies.BlobMade d) (replies.Session j m t) h real says k read = absurd (k h)
-postings name seen (replies.Session i n s) (replies.BlobMade f) h real says k read = absurd (h k)
-postings name seen (replies.BlobMade d) b h real says k read = absurd k
-postings name seen (replies.Session i n s) b h real says k read = absurd k
-postings name seen a b h real says k read = absurd h
+postings : (name : List ℕ) (mount : Option Mount) (digest : Option (List ℕ)) (seen : Seen) (a b : Reply) → IsPosted mount digest a → IsReal a → Says name false seen a → IsPosting seen b → IsReadFrom seen b → AreAlike false a b × IsPosted mount digest b
+postings name mount None seen (replies.BlobMade d) (replies.BlobMade f) h real says k read = (blobs_made name seen (replies.BlobMade d) (replies.BlobMade f) tt real says tt read, h)
+postings name mount (Some digest) seen (replies.BlobMade d) (replies.BlobMade f) h real says k read = (blobs_made name seen (replies.BlobMade d) (replies.BlobMade f) tt real says tt read, tt)
+postings name mount None seen (replies.Session i n s) (replies.Session j m t) h real says k read = uploads 202 name seen (replies.Session i n s) (replies.Session j m t) h real says tt read
+postings name mount digest seen (replies.BlobMade d) (replies.Session j m t) h real says k read = absurd (k says.1)
+postings name mount None seen (replies.Session i n s) (replies.BlobMade f) h real says k read = absurd (omega (arith, k, says.2, h))
+postings name mount digest seen (replies.BlobMade d) b h real says k read = absurd k
+postings name mount None seen (replies.Session i n s) b h real says k read = absurd k
+postings name mount None seen a b h real says k read = absurd h
+postings name mount (Some digest) seen a b h real says k read = absurd h
 
 manifests_made : AreReadAlike false IsManifestMade IsManifestMade
 manifests_made name seen (replies.ManifestMade d v) (replies.ManifestMade f w) h real says k read = ap₂ replies.ManifestMade (read.0 d real.0 says.0) (sym (read.1 ∙ subject_back v _ real.1 says.1))
@@ -232,9 +232,9 @@ manifest_heads name seen (replies.ManifestHead d u n) (replies.ManifestHead f t 
 manifest_heads name seen (replies.ManifestHead d u n) b h real says k read = absurd k
 manifest_heads name seen a b h real says k read = absurd h
 
-pages : (name : List ℕ) (seen : Seen) (a b : Reply) → IsPage a → IsReal a → Says name false seen a → IsPageFrom name seen b → AreAlike false a b
+pages : (name : List ℕ) (seen : Seen) (a b : Reply) → IsPage a → IsReal a → Says name false seen a → IsPageFrom name seen b → AreAlike false a b × IsPage b
 unfolding shown_body
-pages name seen (replies.Tags v t n) (replies.Tags w u m) h real says k = (k.0 v real.0 says.0, k.1 t n real.1 real.2 says.1)
+pages name seen (replies.Tags v t n) (replies.Tags w u m) h real says k = ((k.0 v real.0 says.0, k.1 t n real.1 real.2 says.1), tt)
 pages name seen (replies.Tags v t n) b h real says k = absurd k
 pages name seen a b h real says k = absurd h
 
@@ -244,21 +244,21 @@ indexes name seen (replies.Referrers v t) (replies.Referrers w u) h real says k 
 indexes name seen (replies.Referrers v t) b h real says k read = absurd k
 indexes name seen a b h real says k read = absurd h
 
-pub success_alike : (name : List ℕ) (call : Call) (seen : Seen) (a b : Reply) → IsSuccessOf call a → IsReal a → Says name (is_head call) seen a → IsSuccessFrom name call seen b → AreAlike (is_head call) a b
-success_alike name calls.Base seen a b h real says r = bases name seen a b h real says r.0 r.1
-success_alike name (calls.GetBlob digest) seen a b h real says r = blobs name seen a b h real says r.0 r.1
-success_alike name (calls.HeadBlob digest) seen a b h real says r = blob_heads name seen a b h real says r.0 r.1
-success_alike name (calls.DeleteBlob digest) seen a b h real says r = deletions name seen a b h real says r.0 r.1
-success_alike name (calls.Post mount digest body) seen a b h real says r = postings name seen a b (posting_back name mount digest seen a h says) real says r.0 r.1
+pub success_alike : (name : List ℕ) (call : Call) (seen : Seen) (a b : Reply) → IsSuccessOf call a → IsReal a → Says name (is_head call) seen a → IsSuccessFrom name call seen b → AreAlike (is_head call) a b × IsSuccessOf call b
+success_alike name calls.Base seen a b h real says r = (bases name seen a b h real says r.0 r.1, r.0)
+success_alike name (calls.GetBlob digest) seen a b h real says r = (blobs name seen a b h real says r.0 r.1, r.0)
+success_alike name (calls.HeadBlob digest) seen a b h real says r = (blob_heads name seen a b h real says r.0 r.1, r.0)
+success_alike name (calls.DeleteBlob digest) seen a b h real says r = (deletions name seen a b h real says r.0 r.1, r.0)
+success_alike name (calls.Post mount digest body) seen a b h real says r = postings name mount digest seen a b h real says r.0 r.1
 success_alike name (calls.Patch None range body) seen a b h real says r = absurd h
 success_alike name (calls.Patch (Some id) range body) seen a b h real says r = uploads 202 name seen a b h real says r.0 r.1
 success_alike name (calls.Finish None range digest body) seen a b h real says r = absurd h
-success_alike name (calls.Finish (Some id) range digest body) seen a b h real says r = blobs_made name seen a b h real says r.0 r.1
+success_alike name (calls.Finish (Some id) range digest body) seen a b h real says r = (blobs_made name seen a b h real says r.0 r.1, r.0)
 success_alike name (calls.UploadState None) seen a b h real says r = absurd h
 success_alike name (calls.UploadState (Some id)) seen a b h real says r = uploads 204 name seen a b h real says r.0 r.1
-success_alike name (calls.PutManifest reference media body) seen a b h real says r = manifests_made name seen a b h real says r.0 r.1
-success_alike name (calls.GetManifest reference) seen a b h real says r = manifests name seen a b h real says r.0 r.1
-success_alike name (calls.HeadManifest reference) seen a b h real says r = manifest_heads name seen a b h real says r.0 r.1
-success_alike name (calls.DeleteManifest reference) seen a b h real says r = deletions name seen a b h real says r.0 r.1
+success_alike name (calls.PutManifest reference media body) seen a b h real says r = (manifests_made name seen a b h real says r.0 r.1, r.0)
+success_alike name (calls.GetManifest reference) seen a b h real says r = (manifests name seen a b h real says r.0 r.1, r.0)
+success_alike name (calls.HeadManifest reference) seen a b h real says r = (manifest_heads name seen a b h real says r.0 r.1, r.0)
+success_alike name (calls.DeleteManifest reference) seen a b h real says r = (deletions name seen a b h real says r.0 r.1, r.0)
 success_alike name (calls.Tags n last) seen a b h real says r = pages name seen a b h real says r.0
-success_alike name (calls.Referrers digest filter) seen a b h real says r = indexes name seen a b h real says r.0 r.1
+success_alike name (calls.Referrers digest filter) seen a b h real says r = (indexes name seen a b h real says r.0 r.1, r.0)

@@ -6,14 +6,12 @@ use Rattle.zot_digest.specs.Digest.{IsDigest, digest_named, digest_text}
 use Rattle.zot_media.specs.declared.media.Media.{Media}
 use Rattle.zot_media.specs.Media.{media_text}
 use Rattle.zot_model.specs.Calls.{is_head}
-use Rattle.zot_model.specs.Codes.{HasDetail, status_of}
 use Rattle.zot_model.specs.declared.call.Call.{Call}
 use Rattle.zot_model.specs.declared.call.Call.TheVariants as calls
-use Rattle.zot_model.specs.declared.code.Code.{Code}
 use Rattle.zot_model.specs.declared.reply.Reply.{Reply}
 use Rattle.zot_model.specs.declared.reply.Reply.TheVariants as replies
 use Rattle.zot_model.specs.declared.request.Request.{Request}
-use Rattle.zot_model.specs.Fits.{Fits, IsAmong, IsBlobMade, IsSuccessOf}
+use Rattle.zot_model.specs.Fits.{Fits, IsBlobMade, IsSuccessOf}
 use Rattle.zot_model.specs.Values.{IsReal, IsWord}
 use Rattle.zot_names.specs.Tag.{IsTag}
 use Rattle.zot_names.specs.Upload.{upload_text}
@@ -157,13 +155,3 @@ IsReadAs Kind seen reply = Kind reply × IsReadFrom seen reply
 -- the success of a call on the repository of the name that is seen
 abbrev pub IsSuccessFrom : List ℕ → Call → Seen → Reply → Type 0
 IsSuccessFrom name call seen reply = IsReadAs (IsKindOf name call seen) seen reply
-
--- a refusal with this code, its status and its kind of detail
-abbrev pub IsRefusedAs : Code → Reply → Type 0
-IsRefusedAs code (replies.Refused status other detail) = (other ≡ code) × (status ≡ status_of code) × HasDetail code detail
-IsRefusedAs code _ = ⊥
-
--- a refusal with one of these codes, its status and its kind of detail
-abbrev pub IsRefusedAmong : List Code → Reply → Type 0
-IsRefusedAmong among (replies.Refused status other detail) = IsAmong among other × (status ≡ status_of other) × HasDetail other detail
-IsRefusedAmong among _ = ⊥

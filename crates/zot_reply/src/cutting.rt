@@ -23,6 +23,13 @@ pub fn skip(bytes: &[u8], count: usize) -> &[u8]
     }
 }
 
+/// What stands after so many bytes, a text and so many more. Takes no memory.
+pub fn skip_text<'a>(bytes: &'a [u8], before: usize, text: &str, after: usize) -> &'a [u8]
+    ensures { (front back rest : List ℕ) → length front ≡ before → length back ≡ after → bytes.now ≡ front ++ (text.now ++ (back ++ rest)) → result.now ≡ rest }
+{
+    skip(skip(skip(bytes, before), text.len()), after)
+}
+
 /// What stands before the first byte that is the end. Takes no memory.
 pub fn up_to(bytes: &[u8], end: u8) -> &[u8]
     ensures { (text rest : List ℕ) → IsFree end text → bytes.now ≡ text ++ (end ∷ rest) → result.now ≡ text }

@@ -3,7 +3,7 @@ ghost use Rattle.zot_model.specs.Codes.{HasDetail};
 ghost use Rattle.zot_reply.specs.Details.{FindsDigest, IsDetailFrom};
 ghost use Rattle.zot_reply.specs.Reading.{seen_of};
 
-use crate::cutting::{first_digest, skip};
+use crate::cutting::{first_digest, skip, skip_text};
 use crate::values::{upload_id, upload_length};
 use zot_digest::Digest;
 use zot_model::{Code, Detail, Methods};
@@ -44,8 +44,6 @@ pub fn detail_of(code: Code, split: &SplitReply) -> Detail
 fn digest_at(code: Code, body: &[u8], place: usize) -> Digest
     ensures { FindsDigest code body.now place result }
 {
-    let from_code = skip(body, BEFORE_CODE);
-    let after_code = skip(from_code, code.text().len());
-    let detail = skip(after_code, BEFORE_DETAIL);
+    let detail = skip_text(body, BEFORE_CODE, code.text(), BEFORE_DETAIL);
     first_digest(skip(detail, place))
 }

@@ -1,6 +1,7 @@
 //! The values that the fields of a reply name. Where a field doesn't name one, another is given: a reply that is made of it isn't confirmed.
-ghost use Rattle.std.specs.Prelude.{◌≡◌, ℕ, List};
-ghost use Rattle.zot_reply.specs.Reading.{FindsContent, FindsId, FindsLength, FindsMedia, FindsSize, FindsSubject, Has, seen_of};
+ghost use Rattle.std.specs.Prelude.{◌≡◌, [], unwrap_or};
+ghost use Rattle.zot_reply.specs.Reading.{FindsContent, FindsId, FindsLength, FindsMedia, FindsSize, FindsSubject, seen_of};
+ghost use Rattle.zot_spell.specs.Heads.{name_text, value_in};
 
 use crate::cutting::{digest_of, number_of, skip, text_of};
 use zot_digest::{Digest, read_digest};
@@ -58,7 +59,7 @@ pub fn upload_length(split: &SplitReply) -> u64
 
 // The value of the first field of this name.
 fn value<'a>(name: FieldName, split: &'a SplitReply) -> &'a [u8]
-    ensures { (text : List ℕ) → Has (seen_of split.now) name text → result.now ≡ text }
+    ensures { result.now ≡ unwrap_or (value_in (name_text name) split.now.fields.items) [] }
 {
     match value_in(name, split.fields.as_slice()) {
         Some(text) => text,
