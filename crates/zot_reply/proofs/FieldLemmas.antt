@@ -4,6 +4,7 @@ use Rattle.std.specs.Fmt.{decimal}
 use Rattle.std.specs.List.{AllByRecursion}
 use Rattle.std.specs.Prelude.{IfSome, codes}
 use Rattle.std.specs.Str.{bytes_eq}
+use Rattle.std.proofs.lemmas.Bool.{cond_both}
 use Rattle.std.proofs.lemmas.List.{append_assoc}
 use Rattle.zot_digest.specs.Digest.{IsDigest, digest_text}
 use Rattle.zot_media.specs.declared.media.Media.TheVariants.{Index}
@@ -147,15 +148,11 @@ all_are name (replies.Refused status code detail) close is = refusal_are name de
 
 -- ---- of a repository whose name has no CR
 
-free_either : (b : Bool) (text more : List ℕ) → IsFree 13 text → IsFree 13 more → IsFree 13 (if b then text else more)
-free_either true text more f g = f
-free_either false text more f g = g
-
 front_free : (name field : List ℕ) → IsFree 13 name → IsFree 13 (place_front name field)
 front_free name field f =
     let place = free_append 13 (codes "/v2/") name (free_by_test 13 (codes "/v2/") refl) f in
     let link = free_append 13 (codes "<") (codes "/v2/" ++ name ++ codes "/tags/list?n=") (free_by_test 13 (codes "<") refl) (free_append 13 (codes "/v2/" ++ name) (codes "/tags/list?n=") place (free_by_test 13 (codes "/tags/list?n=") refl)) in
-    free_either (bytes_eq field (name_text names.Location)) (codes "/v2/" ++ name) _ place (free_either (bytes_eq field (name_text names.Link)) (link_front name) [] link (free_by_test 13 [] refl))
+    cond_both (bytes_eq field (name_text names.Location)) (codes "/v2/" ++ name) _ (IsFree 13) (λ e. place) (λ e. cond_both (bytes_eq field (name_text names.Link)) (link_front name) [] (IsFree 13) (λ e. link) (λ e. free_by_test 13 [] refl))
 
 pub are_fields : (name : List ℕ) (fields : List Field) → IsFree 13 name → AreOwn name fields → AreFields fields
 are_fields name [] f all = tt

@@ -1,8 +1,6 @@
-pub mod AloneLemmas
-pub mod CodeLemmas
-pub mod DetailLemmas
 pub mod FieldLemmas
 pub mod PageLemmas
+pub mod RefusalLemmas
+pub mod ReplyLemmas
 pub mod TextLemmas
 pub mod ValueLemmas
-pub mod WantedLemmas

@@ -56,14 +56,9 @@ tags_place (tag ∷ tags) all later =
 abbrev pub page_front : List ℕ → List ℕ
 page_front name = codes "{\"name\":" ++ (quoted name ++ codes ",\"tags\":[")
 
-front_assoc : (a n b t : List ℕ) → a ++ (n ++ (b ++ t)) ≡ (a ++ (n ++ b)) ++ t
-front_assoc a n b t = simp append_assoc
-
 pub page_is : (name : List ℕ) (tags : List (List ℕ)) → AllByRecursion IsTag tags → page_body name tags ≡ page_front name ++ tags_text false tags
 unfolding page_body page_value escape_byte
-page_is name tags all =
-    ap (λ (t : List ℕ). codes "{\"name\":" ++ (quoted name ++ (codes ",\"tags\":[" ++ t))) (tags_place tags all false)
-    ∙ front_assoc (codes "{\"name\":") (quoted name) (codes ",\"tags\":[") (tags_text false tags)
+page_is name tags all = ap (λ (t : List ℕ). codes "{\"name\":" ++ (quoted name ++ (codes ",\"tags\":[" ++ t))) (tags_place tags all false) ∙ simp append_assoc
 
 -- the same of a repository whose name is one
 pub page_pieces : (name : List ℕ) (tags : List (List ℕ)) → AllPass is_name_byte name → AllByRecursion IsTag tags → page_body name tags ≡ codes "{\"name\":\"" ++ (name ++ (codes "\",\"tags\":[" ++ tags_text false tags))

@@ -1,10 +1,10 @@
 -- Texts without a byte, and texts that are UTF-8.
-use Rattle.std.proofs.Common.{◌≡◌, ℕ, zero, suc, ◌+◌, ◌<◌, ◌≤◌, ◌/◌, ◌%◌, ◌==◌, Bool, true, false, not, ◌&&◌, if◌then◌else◌, nat_lt, inl, inr, List, [], ◌∷◌, length, refl, ap, arith, slice_index}
+use Rattle.std.proofs.Common.{◌≡◌, ℕ, zero, suc, ◌+◌, ◌<◌, ◌≤◌, ◌/◌, ◌%◌, ◌==◌, Bool, true, false, not, ◌&&◌, nat_lt, inl, inr, List, [], ◌∷◌, length, refl, ap, arith, slice_index}
 use Rattle.std.specs.Fmt.{decimal, digit_glyph, digits, digits_onto}
 use Rattle.std.specs.Int.{w64, to_be_bytes}
 use Rattle.std.specs.List.{AllPass}
 use Rattle.std.specs.Prelude.{All, IsOk, IsUtf8, Ok}
-use Rattle.std.proofs.lemmas.Bool.{and_parts, cases_lt, eqb-true}
+use Rattle.std.proofs.lemmas.Bool.{and_parts, cases_lt, cond_both, eqb-true}
 use Rattle.std.proofs.lemmas.Bool.Decides.{nat_tests}
 use Rattle.std.proofs.lemmas.List.{get_or_past}
 use Rattle.std.proofs.lemmas.List.Elements.{All-cons, All-nil}
@@ -83,20 +83,12 @@ upload_free id = free_by is_hex_digit 13 (upload_text id) refl (id_digits id)
 abbrev IsHigh : ℕ → Type 0
 IsHigh c = 48 ≤ c
 
-high_either : (t : Bool) (a b : List ℕ) → All IsHigh a → All IsHigh b → All IsHigh (if t then a else b)
-high_either true a b h k = h
-high_either false a b h k = k
-
-glyph_either : (t : Bool) (d : ℕ) → 48 ≤ (if t then 48 + d else 87 + d)
-glyph_either true d = omega arith
-glyph_either false d = omega arith
-
 high_onto : (k n : ℕ) (text : List ℕ) → All IsHigh text → All IsHigh (digits_onto k 10 false n text)
 high_onto zero n text h = h
 high_onto (suc k) n text h =
-    let more = All-cons IsHigh (digit_glyph false (n % 10)) text (glyph_either (nat_lt (n % 10) 10) (n % 10)) h in
-    high_either (n / 10 == 0) (digit_glyph false (n % 10) ∷ text) (digits_onto k 10 false (n / 10) (digit_glyph false (n % 10) ∷ text)) more
-    (high_onto k (n / 10) (digit_glyph false (n % 10) ∷ text) more)
+    let glyph = digit_glyph false (n % 10) in
+    let more = All-cons IsHigh glyph text (cond_both (nat_lt (n % 10) 10) (48 + n % 10) (87 + n % 10) IsHigh (λ e. omega arith) (λ e. omega arith)) h in
+    cond_both (n / 10 == 0) (glyph ∷ text) (digits_onto k 10 false (n / 10) (glyph ∷ text)) (All IsHigh) (λ e. more) (λ e. high_onto k (n / 10) (glyph ∷ text) more)
 
 low_differs : (end c : ℕ) → end < 48 → 48 ≤ c → (c == end) ≡ false
 low_differs end c low high = grind (arith, nat_tests)

@@ -32,7 +32,7 @@ use Rattle.zot_spell.specs.Heads.{field_of, length_field_of, name_text, type_fie
 use Rattle.zot_spell.specs.Spelling.{all_fields, parts_of, refusal_fields, shown_body}
 use Rattle.zot_spell.proofs.CutLemmas.{cut_front}
 use Rattle.zot_reply.proofs.PageLemmas.{same_link, same_pages}
-use Rattle.zot_reply.specs.Reading.{Finds, FindsSize, Has, IsKindOf, IsPageFrom, IsPosting, IsReadFrom, IsSeen, IsSuccessFrom, IsUpload, Says, Seen, seen_in}
+use Rattle.zot_reply.specs.Reading.{Finds, FindsSize, Has, IsPageFrom, IsPosting, IsReadFrom, IsSeen, IsSuccessFrom, IsUpload, Says, Seen, seen_in}
 
 -- what is seen of a reply says its values
 pub says : (name : List ℕ) (reply : Reply) (head close : Bool) → Says name head (seen_in name reply head close) reply
@@ -139,26 +139,19 @@ upload_of : (status : ℕ) (reply : Reply) → IsSession status reply → IsUplo
 upload_of status (replies.Session id size other) h = tt
 upload_of status reply h = absurd h
 
-kind_back : (name : List ℕ) (call : Call) (seen : Seen) (reply : Reply) → IsSuccessOf call reply → IsReal reply → Says name (is_head call) seen reply → IsKindOf name call seen reply
-kind_back name (calls.Post mount digest body) seen reply h real says = posting_back name mount digest seen reply h says
-kind_back name (calls.Patch None range body) seen reply h real says = absurd h
-kind_back name (calls.Patch (Some id) range body) seen reply h real says = upload_of 202 reply h
-kind_back name (calls.Finish None range digest body) seen reply h real says = absurd h
-kind_back name (calls.Finish (Some id) range digest body) seen reply h real says = h
-kind_back name (calls.UploadState None) seen reply h real says = absurd h
-kind_back name (calls.UploadState (Some id)) seen reply h real says = upload_of 204 reply h
-kind_back name (calls.Tags n last) seen reply h real says = page_back name seen reply h real says
-kind_back name call seen reply h real says = h
-
-values_back : (name : List ℕ) (call : Call) (seen : Seen) (reply : Reply) → IsSuccessOf call reply → IsReal reply → Says name (is_head call) seen reply → IsReadFrom seen reply
-values_back name (calls.HeadBlob digest) seen (replies.BlobHead d n) h real says = read_back name seen (replies.BlobHead d n) real says
-values_back name (calls.HeadBlob digest) seen reply h real says = absurd h
-values_back name (calls.HeadManifest reference) seen (replies.ManifestHead d m n) h real says = read_back name seen (replies.ManifestHead d m n) real says
-values_back name (calls.HeadManifest reference) seen reply h real says = absurd h
-values_back name call seen reply h real says = read_back name seen reply real says
-
 pub success_back : (name : List ℕ) (call : Call) (seen : Seen) (reply : Reply) → IsSuccessOf call reply → IsReal reply → Says name (is_head call) seen reply → IsSuccessFrom name call seen reply
-success_back name call seen reply h real says = (kind_back name call seen reply h real says, values_back name call seen reply h real says)
+success_back name (calls.HeadBlob digest) seen (replies.BlobHead d n) h real says = (tt, read_back name seen (replies.BlobHead d n) real says)
+success_back name (calls.HeadBlob digest) seen reply h real says = absurd h
+success_back name (calls.HeadManifest reference) seen (replies.ManifestHead d m n) h real says = (tt, read_back name seen (replies.ManifestHead d m n) real says)
+success_back name (calls.HeadManifest reference) seen reply h real says = absurd h
+success_back name (calls.Post mount digest body) seen reply h real says = (posting_back name mount digest seen reply h says, read_back name seen reply real says)
+success_back name (calls.Patch None range body) seen reply h real says = absurd h
+success_back name (calls.Patch (Some id) range body) seen reply h real says = (upload_of 202 reply h, read_back name seen reply real says)
+success_back name (calls.Finish None range digest body) seen reply h real says = absurd h
+success_back name (calls.UploadState None) seen reply h real says = absurd h
+success_back name (calls.UploadState (Some id)) seen reply h real says = (upload_of 204 reply h, read_back name seen reply real says)
+success_back name (calls.Tags n last) seen reply h real says = (page_back name seen reply h real says, read_back name seen reply real says)
+success_back name call seen reply h real says = (h, read_back name seen reply real says)
 
 -- ---- what is read is alike to the success that is seen
 

@@ -1,7 +1,7 @@
 use Rattle.std.proofs.Common.{List, ℕ, ◌∙◌, ◌++◌, ap, refl, sym}
 use Rattle.std.specs.Prelude.{codes}
 use Rattle.zot_digest.specs.Digest.{digest_text}
-use Rattle.zot_reply.proofs.DetailLemmas.{front_pieces}
+use Rattle.zot_reply.proofs.RefusalLemmas.{front_pieces}
 use Rattle.zot_reply.proofs.details.digest_at.Goals as goal
 
 pub returns : goal.returns

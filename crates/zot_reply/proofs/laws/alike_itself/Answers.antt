@@ -1,4 +1,4 @@
-use Rattle.zot_reply.proofs.WantedLemmas.{alike_self}
+use Rattle.zot_reply.proofs.ReplyLemmas.{alike_self}
 use Rattle.zot_reply.proofs.laws.alike_itself.Goals as goal
 
 pub returns : goal.returns

@@ -1,4 +1,4 @@
-use Rattle.zot_reply.proofs.AloneLemmas.{alone}
+use Rattle.zot_reply.proofs.ReplyLemmas.{alone}
 use Rattle.zot_reply.proofs.laws.only_alike_replies.Goals as goal
 
 pub returns : goal.returns

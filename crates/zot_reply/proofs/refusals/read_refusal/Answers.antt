@@ -1,7 +1,7 @@
 use Rattle.std.proofs.Common.{sym, ap, ◌∙◌}
 use Rattle.zot_spell.specs.Spelling.{parts_of}
 use Rattle.zot_reply.specs.Reading.{Seen, seen_of}
-use Rattle.zot_reply.proofs.WantedLemmas.{if_spelled, refusal_spells}
+use Rattle.zot_reply.proofs.ReplyLemmas.{if_spelled, refusal_spells}
 use Rattle.zot_reply.proofs.refusals.read_refusal.Goals as goal
 
 pub returns-then-status-split-clause-whole : goal.returns-then-status-split-clause-whole

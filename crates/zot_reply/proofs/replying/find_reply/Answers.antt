@@ -1,6 +1,6 @@
 use Rattle.zot_spell.proofs.CutLemmas.{matched, unmatched}
 use Rattle.zot_reply.specs.Reading.{IsWanted, seen_of}
-use Rattle.zot_reply.proofs.WantedLemmas.{wanted, wanted_found}
+use Rattle.zot_reply.proofs.ReplyLemmas.{wanted, wanted_found}
 use Rattle.zot_reply.proofs.replying.find_reply.Goals as goal
 
 pub returns-in-Some-clause-whole : goal.returns-in-Some-clause-whole

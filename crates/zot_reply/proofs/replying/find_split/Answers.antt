@@ -1,5 +1,5 @@
 use Rattle.zot_reply.specs.Reading.{seen_of}
-use Rattle.zot_reply.proofs.WantedLemmas.{refusal_found, some_none, success_found}
+use Rattle.zot_reply.proofs.ReplyLemmas.{refusal_found, some_none, success_found}
 use Rattle.zot_reply.proofs.replying.find_split.Goals as goal
 
 pub returns-in-None-clause-whole : goal.returns-in-None-clause-whole

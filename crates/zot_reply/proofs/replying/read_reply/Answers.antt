@@ -1,7 +1,7 @@
 use Rattle.zot_model.specs.declared.reply.Reply.{Reply}
 use Rattle.zot_spell.proofs.CutLemmas.{if_some}
 use Rattle.zot_reply.specs.Reading.{Spells}
-use Rattle.zot_reply.proofs.WantedLemmas.{found_alike}
+use Rattle.zot_reply.proofs.ReplyLemmas.{found_alike}
 use Rattle.zot_reply.proofs.replying.read_reply.Goals as goal
 
 pub returns-in-Some-clause-alike : goal.returns-in-Some-clause-alike

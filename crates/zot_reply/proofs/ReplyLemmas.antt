@@ -1,34 +1,95 @@
--- The reply that bytes are is found.
-use Rattle.std.proofs.Common.{◌≡◌, inl, inr, ℕ, Bool, List, [], ◌∷◌, ◌++◌, Option, Some, None, refl, sym, subst, ◌∙◌, rules}
-use Rattle.std.specs.Prelude.{IfOk, IfSome, IsSome, MatchOption, Result, Ok, Err, unwrap_or}
+-- No other replies to a request share a spelling, and the reply that bytes are is found.
+use Rattle.std.proofs.Common.{◌≡◌, inl, inr, ℕ, ◌<◌, ◌≤◌, Bool, List, ◌++◌, take, drop, Some, refl, sym, ap, subst, ◌∙◌, arith, [], ◌∷◌, Option, None, rules}
 use Rattle.http.specs.StatusCode.{IsStatusCode}
+use Rattle.std.proofs.lemmas.List.{append_assoc}
+use Rattle.std.specs.Prelude.{IfOk, IfSome, IsSome, MatchOption, Result, Ok, Err, unwrap_or}
 use Rattle.zot_model.specs.Calls.{is_head}
 use Rattle.zot_model.specs.Codes.{HasDetail, status_of}
-use Rattle.zot_model.specs.declared.code.Code.{Code}
-use Rattle.zot_model.specs.declared.code.Code.TheVariants.{BlobUnknown}
-use Rattle.zot_model.specs.declared.detail.Detail.{Detail}
-use Rattle.zot_model.specs.declared.reply.Reply.{Reply}
-use Rattle.zot_model.specs.declared.reply.Reply.TheVariants as replies
-use Rattle.zot_model.specs.declared.request.Request.{Request}
-use Rattle.zot_model.specs.Fits.{Fits, IsAmong, IsRefusalOf, IsSuccessOf}
+use Rattle.zot_model.specs.Fits.{Fits, FitsCall, IsAmong, IsRefusalOf, IsSuccessOf}
 use Rattle.zot_model.specs.Refusals.{refusal_with}
-use Rattle.zot_model.specs.Values.{HasValues, IsReal, IsRealDetail}
+use Rattle.zot_model.specs.Values.{IsReal, IsRealDetail, HasValues}
+use Rattle.zot_model.specs.declared.call.Call.{Call}
+use Rattle.zot_model.specs.declared.code.Code.TheVariants.{BlobUnknown}
+use Rattle.zot_model.specs.declared.code.Code.{Code}
+use Rattle.zot_model.specs.declared.detail.Detail.{Detail}
+use Rattle.zot_model.specs.declared.reply.Reply.TheVariants as replies
+use Rattle.zot_model.specs.declared.reply.Reply.{Reply}
+use Rattle.zot_model.specs.declared.request.Request.{Request}
 use Rattle.zot_names.specs.Name.{IsName}
+use Rattle.zot_reply.proofs.FieldLemmas.{all_are, fields_of, same_fields, are_fields}
+use Rattle.zot_reply.proofs.RefusalLemmas.{detail_alike, details_self, high_status, real_detail, refusals_alike}
+use Rattle.zot_reply.proofs.TextLemmas.{free_by_test, name_free}
+use Rattle.zot_reply.proofs.ValueLemmas.{says, success_alike, success_back, seen_says}
+use Rattle.zot_reply.specs.Details.{IsDetailFrom}
+use Rattle.zot_reply.specs.Reading.{Says, Seen, seen_in, seen_with, IsSuccessFrom, IsWanted, Spells, seen_of}
+use Rattle.zot_reply.specs.declared.refusals.TheConstants.{CODES}
+use Rattle.zot_spell.proofs.AlikeLemmas.{alike_bytes}
+use Rattle.zot_spell.proofs.CutLemmas.{cut_front}
+use Rattle.zot_spell.proofs.FitLemmas.{has_status, not_success, session_status}
+use Rattle.zot_spell.proofs.SplitLemmas.{digits_at, same_digits}
+use Rattle.zot_spell.specs.Alike.{AreAlike}
+use Rattle.zot_spell.specs.Fields.{status_line}
+use Rattle.zot_spell.specs.Heads.{fields_text, AreFields, IsFree}
+use Rattle.zot_spell.specs.Spelling.{head_of, head_text, name_in, parts_of, reply_bytes, shown_body, spelled}
 use Rattle.zot_spell.specs.declared.field.Field.{Field}
 use Rattle.zot_spell.specs.declared.split.SplitReply.{SplitReply}
-use Rattle.zot_spell.specs.Alike.{AreAlike}
-use Rattle.zot_spell.specs.Heads.{AreFields, IsFree}
-use Rattle.zot_spell.specs.Spelling.{head_of, head_text, name_in, parts_of, reply_bytes, shown_body, spelled}
-use Rattle.zot_spell.proofs.AlikeLemmas.{alike_bytes}
-use Rattle.zot_spell.proofs.FitLemmas.{has_status, not_success}
-use Rattle.zot_reply.proofs.AloneLemmas.{alone, seen_same}
-use Rattle.zot_reply.proofs.DetailLemmas.{detail_alike, details_self, real_detail}
-use Rattle.zot_reply.proofs.FieldLemmas.{all_are, are_fields, fields_of}
-use Rattle.zot_reply.proofs.TextLemmas.{free_by_test, name_free}
-use Rattle.zot_reply.proofs.ValueLemmas.{seen_says, success_alike}
-use Rattle.zot_reply.specs.Details.{IsDetailFrom}
-use Rattle.zot_reply.specs.Reading.{IsSuccessFrom, IsWanted, Seen, Spells, seen_of}
-use Rattle.zot_reply.specs.declared.refusals.TheConstants.{CODES}
+
+-- ---- the same is seen of the same bytes
+
+pub seen_same : (n m : ℕ) (f g : List Field) (b d : List ℕ) → n ≡ m → f ≡ g → b ≡ d → seen_with n f b ≡ seen_with m g d
+seen_same n m f g b d x y z = rw (x, y, z) refl
+
+bytes_are : (name : List ℕ) (reply : Reply) (head close : Bool) → spelled (parts_of name reply) head close ≡ status_line (parts_of name reply).status ++ (fields_text (fields_of name reply close) ++ shown_body head (parts_of name reply).body)
+unfolding spelled head_of head_text
+bytes_are name reply head close = append_assoc (status_line (parts_of name reply).status) (fields_text (fields_of name reply close)) (shown_body head (parts_of name reply).body)
+
+same_seen : (name : List ℕ) (a b : Reply) (head c k : Bool) → IsStatusCode (parts_of name a).status → IsStatusCode (parts_of name b).status → IsReal a → IsReal b
+    → spelled (parts_of name a) head c ≡ spelled (parts_of name b) head k → seen_in name a head c ≡ seen_in name b head k
+same_seen name a b head c k s t x y e =
+    let p = parts_of name a in
+    let q = parts_of name b in
+    let v = fields_text (fields_of name a c) ++ shown_body head p.body in
+    let w = fields_text (fields_of name b k) ++ shown_body head q.body in
+    let lines : status_line p.status ++ v ≡ status_line q.status ++ w = sym (bytes_are name a head c) ∙ e ∙ bytes_are name b head k in
+    let status : p.status ≡ q.status = same_digits p.status q.status s.1 t.1 (sym (digits_at p.status v) ∙ ap (λ (l : List ℕ). take 3 (drop 9 l)) lines ∙ digits_at q.status w) in
+    let rest = cut_front (status_line p.status) v w (lines ∙ ap (λ (n : ℕ). status_line n ++ w) (sym status)) in
+    let fields = same_fields name (fields_of name a c) (fields_of name b k) (shown_body head p.body) (shown_body head q.body) (all_are name a c x) (all_are name b k y) rest in
+    seen_same p.status q.status (fields_of name a c) (fields_of name b k) (shown_body head p.body) (shown_body head q.body) status fields.0 fields.1
+
+-- ---- successes and refusals
+
+success_low : (name : List ℕ) (call : Call) (reply : Reply) → IsSuccessOf call reply → (parts_of name reply).status < 300
+unfolding parts_of
+success_low name call (replies.Session id size status) h = elim (session_status call id size status h) [
+  | inl e ↦ omega (arith, e)
+  | inr e ↦ omega (arith, e)
+]
+success_low name call (replies.Refused status code detail) h = absurd (not_success call status code detail h)
+success_low name call reply h = omega arith
+
+refusal_high : (name : List ℕ) (call : Call) (reply : Reply) → IsRefusalOf call reply → 400 ≤ (parts_of name reply).status
+unfolding parts_of
+refusal_high name call (replies.Refused status code detail) h = let high = high_status code in omega (arith, high.0, h.1)
+refusal_high name call reply h = absurd h
+
+-- a success isn't seen as a refusal is
+apart : (name : List ℕ) (call : Call) (a b : Reply) (head c k : Bool) → IsSuccessOf call a → IsRefusalOf call b → seen_in name a head c ≡ seen_in name b head k → ⊥
+apart name call a b head c k h g e = let status = ap (λ (s : Seen). s.status) e in omega (arith, success_low name call a h, refusal_high name call b g, status)
+
+seen_alike : (name : List ℕ) (call : Call) (a b : Reply) (c k : Bool) → FitsCall call a → FitsCall call b → IsReal a → IsReal b → seen_in name a (is_head call) c ≡ seen_in name b (is_head call) k → AreAlike (is_head call) a b
+seen_alike name call a b c k (inl h) (inl g) x y e =
+    let other = subst (λ (s : Seen). Says name (is_head call) s b) (sym e) (says name b (is_head call) k) in
+    (success_alike name call _ a b h x (says name a (is_head call) c) (success_back name call _ b g y other)).0
+seen_alike name call a b c k (inl h) (inr g) x y e = absurd (apart name call a b (is_head call) c k h g e)
+seen_alike name call a b c k (inr h) (inl g) x y e = absurd (apart name call b a (is_head call) k c g h (sym e))
+seen_alike name call a b c k (inr h) (inr g) x y e = refusals_alike name call a b (is_head call) c k h g x y e
+
+pub alone : (request : Request) (a b : Reply) (c k : Bool) → Fits request a → Fits request b → IsReal a → IsReal b
+    → reply_bytes (Some request) a (is_head request.call) c ≡ reply_bytes (Some request) b (is_head request.call) k → AreAlike (is_head request.call) a b
+unfolding reply_bytes
+alone request a b c k h g x y e =
+    let name = name_in (Some request) in
+    seen_alike name request.call a b c k h g x y (same_seen name a b (is_head request.call) c k (has_status (Some request) name a h) (has_status (Some request) name b g) x y e)
 
 -- ---- a reply is like itself
 
