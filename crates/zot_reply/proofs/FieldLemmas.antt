@@ -118,33 +118,25 @@ typed_are : (name media : List ℕ) (status size : ℕ) (close : Bool) → IsFre
 unfolding type_fields name_text
 typed_are name media status size close f = (own name names.ContentType media media refl f, tail_are name status size close)
 
-byte_free : IsFree 13 byte_media
-unfolding byte_media
-byte_free = free_by_test 13 byte_media refl
-
-json_free : IsFree 13 json_media
-unfolding json_media
-json_free = free_by_test 13 json_media refl
-
 -- the fields of a reply, to a request on the repository of the name
 abbrev pub fields_of : List ℕ → Reply → Bool → List Field
 fields_of name reply close = all_fields (parts_of name reply) close
 
 pub all_are : (name : List ℕ) (reply : Reply) (close : Bool) → IsReal reply → AreOwn name (fields_of name reply close)
-unfolding parts_of all_fields type_fields version_field blob_place manifest_place name_text
-all_are name replies.Base close is = (own name names.ApiVersion (codes "registry/2.0") (codes "registry/2.0") refl (free_by_test 13 (codes "registry/2.0") refl), typed_are name json_media 200 (length base_body) close json_free)
-all_are name (replies.Blob digest bytes) close is = (content_own name digest is, typed_are name byte_media 200 (length bytes) close byte_free)
-all_are name (replies.BlobHead digest size) close is = (content_own name digest is.0, typed_are name byte_media 200 size close byte_free)
+unfolding parts_of all_fields byte_media json_media type_fields version_field blob_place manifest_place name_text
+all_are name replies.Base close is = (own name names.ApiVersion (codes "registry/2.0") (codes "registry/2.0") refl (free_by_test 13 (codes "registry/2.0") refl), typed_are name json_media 200 (length base_body) close (free_by_test 13 json_media refl))
+all_are name (replies.Blob digest bytes) close is = (content_own name digest is, typed_are name byte_media 200 (length bytes) close (free_by_test 13 byte_media refl))
+all_are name (replies.BlobHead digest size) close is = (content_own name digest is.0, typed_are name byte_media 200 size close (free_by_test 13 byte_media refl))
 all_are name (replies.BlobMade digest) close is = (place_own name (codes "/blobs/") (digest_text digest) (free_by_test 13 (codes "/blobs/") refl) (digest_free digest is), (content_own name digest is, tail_are name 201 0 close))
 all_are name (replies.Session id size status) close is = upload_are name id size _ (tail_are name status 0 close)
 all_are name (replies.ManifestMade digest subject) close is =
     (place_own name (codes "/manifests/") (digest_text digest) (free_by_test 13 (codes "/manifests/") refl) (digest_free digest is.0), (content_own name digest is.0, subject_are name subject _ is.1 (tail_are name 201 0 close)))
 all_are name (replies.Manifest digest media bytes) close is = (content_own name digest is, typed_are name (media_text media) 200 (length bytes) close (media_free media))
 all_are name (replies.ManifestHead digest media size) close is = (content_own name digest is.0, typed_are name (media_text media) 200 size close (media_free media))
-all_are name (replies.Tags tags next n) close is = link_are name n next _ is.1 (typed_are name json_media 200 (length (page_body name tags)) close json_free)
+all_are name (replies.Tags tags next n) close is = link_are name n next _ is.1 (typed_are name json_media 200 (length (page_body name tags)) close (free_by_test 13 json_media refl))
 all_are name (replies.Referrers text filtered) close is = filter_are name filtered _ (typed_are name (media_text Index) 200 (length text) close (media_free Index))
 all_are name replies.Deleted close is = tail_are name 202 0 close
-all_are name (replies.Refused status code detail) close is = refusal_are name detail _ (typed_are name json_media status (length (error_body code detail)) close json_free)
+all_are name (replies.Refused status code detail) close is = refusal_are name detail _ (typed_are name json_media status (length (error_body code detail)) close (free_by_test 13 json_media refl))
 
 -- ---- of a repository whose name has no CR
 

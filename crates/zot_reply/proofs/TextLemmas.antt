@@ -2,12 +2,13 @@
 use Rattle.std.proofs.Common.{◌≡◌, ℕ, zero, suc, ◌+◌, ◌<◌, ◌≤◌, ◌/◌, ◌%◌, ◌==◌, Bool, true, false, not, ◌&&◌, nat_lt, inl, inr, List, [], ◌∷◌, length, refl, ap, arith, slice_index}
 use Rattle.std.specs.Fmt.{decimal, digit_glyph, digits, digits_onto}
 use Rattle.std.specs.Int.{w64, to_be_bytes}
-use Rattle.std.specs.List.{AllPass}
+use Rattle.std.specs.List.{AllPass, list_all}
 use Rattle.std.specs.Prelude.{All, IsOk, IsUtf8, Ok}
-use Rattle.std.proofs.lemmas.Bool.{and_parts, cases_lt, cond_both, eqb-true}
+use Rattle.std.proofs.lemmas.Bool.{cases_lt, cond_both, eqb-true}
 use Rattle.std.proofs.lemmas.Bool.Decides.{nat_tests}
 use Rattle.std.proofs.lemmas.List.{get_or_past}
 use Rattle.std.proofs.lemmas.List.Elements.{All-cons, All-nil}
+use Rattle.std.proofs.lemmas.List.Sums.{AllPass-from_list_all}
 use Rattle.std.proofs.lemmas.Str.{IsUtf8-from_ascii}
 use Rattle.hex.proofs.HexLemmas.{IsOk-decode_sized, decode_sized-encode_lower}
 use Rattle.hex.specs.Hex.{decode_sized, encode_lower, is_hex_digit}
@@ -22,23 +23,16 @@ use Rattle.zot_names.specs.Name.{IsName, is_name_byte}
 use Rattle.zot_names.specs.Tag.{IsTag, is_tag_byte}
 use Rattle.zot_names.specs.Upload.{upload_text}
 use Rattle.zot_spell.specs.Heads.{IsFree}
-use Rattle.zot_spell.proofs.CutLemmas.{free_append, free_cons}
+use Rattle.zot_spell.proofs.CutLemmas.{free_append}
 
 -- ---- texts without a byte
-
-abbrev pub is_free : ℕ → List ℕ → Bool
-is_free end [] = true
-is_free end (c ∷ text) = not (c == end) && is_free end text
 
 is_not : (b : Bool) → not b ≡ true → b ≡ false
 is_not true h = cc h
 is_not false h = refl
 
-pub free_by_test : (end : ℕ) (text : List ℕ) → is_free end text ≡ true → IsFree end text
-free_by_test end [] h = λ k lt. absurd (omega (arith, lt))
-free_by_test end (c ∷ text) h =
-    let p = and_parts (not (c == end)) (is_free end text) h in
-    free_cons end c text (is_not (c == end) p.0) (free_by_test end text p.1)
+pub free_by_test : (end : ℕ) (text : List ℕ) → list_all (λ c. not (c == end)) text ≡ true → IsFree end text
+free_by_test end text h = λ k lt. is_not (slice_index text k == end) (AllPass-from_list_all (λ c. not (c == end)) text h k 0 lt)
 
 not_true : (b : Bool) → (b ≡ true → ⊥) → b ≡ false
 not_true true h = absurd (h refl)
