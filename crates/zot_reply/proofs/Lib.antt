@@ -1,11 +1,6 @@
-pub mod AloneLemmas
-pub mod CodeLemmas
-pub mod DetailLemmas
 pub mod FieldLemmas
-pub mod MediaTextLemmas
 pub mod PageLemmas
-pub mod ReadingLemmas
-pub mod SameLemmas
-pub mod SameRefusals
+pub mod RefusalLemmas
+pub mod ReplyLemmas
+pub mod TextLemmas
 pub mod ValueLemmas
-pub mod WantedLemmas

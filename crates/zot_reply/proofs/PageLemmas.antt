@@ -1,74 +1,40 @@
 -- What the bodies and the links of pages of tags are.
-use Rattle.std.proofs.Common.{◌≡◌, ◌≢◌, ℕ, zero, suc, ◌<◌, ◌≤◌, ◌==◌, Bool, true, false, inl, inr, List, [], ◌∷◌, ◌++◌, length, map, refl, sym, ap, ap₂, ◌∙◌, arith, slice_index, append-nil}
-use Rattle.std.specs.Prelude.{Err, IfOk, IsUtf8, Ok, Option, Result, Some, codes}
+use Rattle.std.proofs.Common.{◌≡◌, ℕ, zero, suc, ◌<◌, ◌^◌, Bool, true, false, List, [], ◌∷◌, ◌++◌, map, refl, sym, ap, ap₂, subst, ◌∙◌, arith, slice_index, append-nil}
+use Rattle.std.specs.Prelude.{Err, IfOk, IfSome, None, Ok, Option, Result, Some, codes, option_map}
 use Rattle.std.specs.Borrow.{Bor}
 use Rattle.std.specs.Fmt.{decimal}
 use Rattle.std.specs.List.{AllByRecursion, AllPass}
-use Rattle.std.proofs.lemmas.Bool.{cases_lt, eqb-true}
 use Rattle.std.proofs.lemmas.Bool.Decides.{nat_tests}
-use Rattle.std.proofs.lemmas.List.{append_assoc, get_or_past}
-use Rattle.std.proofs.lemmas.Str.{IsUtf8-from_ascii}
+use Rattle.std.proofs.lemmas.Fmt.{decimal_injective}
+use Rattle.std.proofs.lemmas.List.{append_assoc}
 use Rattle.json.specs.Print.{escape, escape_byte, quoted}
 use Rattle.serde_json.specs.Data.{string}
 use Rattle.serde_json.specs.View.{items_of}
 use Rattle.serde_json.specs.Written.{comma_if, items_text}
+use Rattle.zot_model.specs.Values.{IsWord}
 use Rattle.zot_names.proofs.ByteLemmas.{tag_bytes}
-use Rattle.zot_names.specs.Tag.{IsTag, is_tag_byte}
 use Rattle.zot_names.specs.Name.{is_name_byte}
+use Rattle.zot_names.specs.Tag.{IsTag, is_tag_byte}
+use Rattle.zot_reply.proofs.TextLemmas.{decimal_free, free_by_test, tag_free}
 use Rattle.zot_reply.specs.Pages.{link_rest, tags_text}
+use Rattle.zot_spell.specs.Alike.{ArePagesAlike}
 use Rattle.zot_spell.specs.Bodies.{page_body, page_value}
 use Rattle.zot_spell.specs.Fields.{link_text, page_place}
 use Rattle.zot_spell.specs.Heads.{IsFree}
-use Rattle.zot_spell.proofs.CutLemmas.{same_ended, cut_front}
+use Rattle.zot_spell.proofs.CutLemmas.{cut_front, free_append, same_ended}
 use Rattle.zot_spell.proofs.PlainLemmas.{IsPlain, IsPlainByte, plain_byte, plain_text}
 
--- ---- the bytes of a tag
+-- ---- texts that JSON writes as they stand
 
-high : (c : ℕ) → is_tag_byte c ≡ true → 45 ≤ c
-high c h = grind (arith, nat_tests)
+plain_by : (test : ℕ → Bool) → ((c : ℕ) → test c ≡ true → IsPlainByte c) → (text : List ℕ) → AllPass test text → IsPlain text
+plain_by test plain [] all = tt
+plain_by test plain (c ∷ text) all = (plain c (all 0 0 (omega arith)), plain_by test plain text (λ k d lt. all (suc k) d (omega (arith, lt))))
 
-low : (c : ℕ) → is_tag_byte c ≡ true → c ≤ 122
-low c h = grind (arith, nat_tests)
+tag_byte : (c : ℕ) → is_tag_byte c ≡ true → IsPlainByte c
+tag_byte c h = plain_byte c (grind (arith, nat_tests)) (λ e. absurd (grind (arith, nat_tests))) (λ e. absurd (grind (arith, nat_tests)))
 
-no_slash : (c : ℕ) → is_tag_byte c ≡ true → c ≢ 92
-no_slash c h = grind (arith, nat_tests)
-
-not_true : (t : Bool) → (t ≡ true → ⊥) → t ≡ false
-not_true true h = absurd (h refl)
-not_true false h = refl
-
-differs : (end c : ℕ) → is_tag_byte end ≡ false → is_tag_byte c ≡ true → (c == end) ≡ false
-differs end c isnt is = not_true (c == end) (λ e. let same : is_tag_byte c ≡ is_tag_byte end = ap is_tag_byte (eqb-true c end e) in cc (isnt, is, same))
-
--- no tag has a byte that isn't one of tags
-pub tag_free : (end : ℕ) (tag : List ℕ) → is_tag_byte end ≡ false → IsTag tag → IsFree end tag
-tag_free end tag isnt is = λ k lt. differs end (slice_index tag k) isnt (tag_bytes tag is k 0 lt)
-
-tag_ascii : (tag : List ℕ) → IsTag tag → (i : ℕ) → slice_index tag i < 128
-tag_ascii tag is i =
-    elim (cases_lt i (length tag)) [
-      | inl below ↦ omega (arith, low (slice_index tag i) (tag_bytes tag is i 0 below))
-      | inr above ↦ rw (get_or_past tag i 0 above) (omega arith)
-    ]
-
-pub tag_is_text : (tag : List ℕ) → IsTag tag → IsUtf8 tag
-tag_is_text tag is = IsUtf8-from_ascii tag (tag_ascii tag is)
-
-plain_tag_byte : (c : ℕ) → is_tag_byte c ≡ true → IsPlainByte c
-plain_tag_byte c h = let lo = high c h in plain_byte c (omega (arith, lo)) (λ e. absurd (omega (arith, lo, e))) (no_slash c h)
-
-plain_all : (text : List ℕ) → ((k : ℕ) → k < length text → IsPlainByte (slice_index text k)) → IsPlain text
-plain_all [] h = tt
-plain_all (c ∷ text) h = (h 0 (omega arith), plain_all text (λ k lt. h (suc k) (omega (arith, lt))))
-
-tag_plain : (tag : List ℕ) → IsTag tag → IsPlain tag
-tag_plain tag is = plain_all tag (λ k lt. plain_tag_byte (slice_index tag k) (tag_bytes tag is k 0 lt))
-
-name_plain_byte : (c : ℕ) → is_name_byte c ≡ true → IsPlainByte c
-name_plain_byte c h = plain_byte c (grind (arith, nat_tests)) (λ e. absurd (grind (arith, nat_tests))) (λ e. absurd (grind (arith, nat_tests)))
-
-name_plain : (name : List ℕ) → AllPass is_name_byte name → IsPlain name
-name_plain name all = plain_all name (λ k lt. name_plain_byte (slice_index name k) (all k 0 lt))
+name_byte : (c : ℕ) → is_name_byte c ≡ true → IsPlainByte c
+name_byte c h = plain_byte c (grind (arith, nat_tests)) (λ e. absurd (grind (arith, nat_tests))) (λ e. absurd (grind (arith, nat_tests)))
 
 -- ---- the tags of a page
 
@@ -84,27 +50,20 @@ tags_place : (tags : List (List ℕ)) → AllByRecursion IsTag tags → (later :
 tags_place [] all later = refl
 tags_place (tag ∷ tags) all later =
     piece_assoc (comma_if later) (34 ∷ []) (escape tag) (items_text true (items_of (map string tags))) (125 ∷ [])
-    ∙ ap₂ (λ (t r : List ℕ). comma_if later ++ (34 ∷ (t ++ (34 ∷ r)))) (plain_text tag (tag_plain tag all.0)) (tags_place tags all.1 true)
+    ∙ ap₂ (λ (t r : List ℕ). comma_if later ++ (34 ∷ (t ++ (34 ∷ r)))) (plain_text tag (plain_by is_tag_byte tag_byte tag (tag_bytes tag all.0))) (tags_place tags all.1 true)
 
 -- the body of a page up to its tags
 abbrev pub page_front : List ℕ → List ℕ
 page_front name = codes "{\"name\":" ++ (quoted name ++ codes ",\"tags\":[")
 
-front_assoc : (a n b t : List ℕ) → a ++ (n ++ (b ++ t)) ≡ (a ++ (n ++ b)) ++ t
-front_assoc a n b t = simp append_assoc
-
 pub page_is : (name : List ℕ) (tags : List (List ℕ)) → AllByRecursion IsTag tags → page_body name tags ≡ page_front name ++ tags_text false tags
 unfolding page_body page_value escape_byte
-page_is name tags all =
-    ap (λ (t : List ℕ). codes "{\"name\":" ++ (quoted name ++ (codes ",\"tags\":[" ++ t))) (tags_place tags all false)
-    ∙ front_assoc (codes "{\"name\":") (quoted name) (codes ",\"tags\":[") (tags_text false tags)
+page_is name tags all = ap (λ (t : List ℕ). codes "{\"name\":" ++ (quoted name ++ (codes ",\"tags\":[" ++ t))) (tags_place tags all false) ∙ simp append_assoc
 
--- the front of a page of a repository whose name is plain
-pub plain_front : (name : List ℕ) → IsPlain name → page_front name ≡ codes "{\"name\":\"" ++ (name ++ codes "\",\"tags\":[")
-plain_front name plain = ap (λ (t : List ℕ). codes "{\"name\":" ++ ((34 ∷ (t ++ (34 ∷ []))) ++ codes ",\"tags\":[")) (plain_text name plain) ∙ simp append_assoc
-
+-- the same of a repository whose name is one
 pub page_pieces : (name : List ℕ) (tags : List (List ℕ)) → AllPass is_name_byte name → AllByRecursion IsTag tags → page_body name tags ≡ codes "{\"name\":\"" ++ (name ++ (codes "\",\"tags\":[" ++ tags_text false tags))
-page_pieces name tags named all = page_is name tags all ∙ ap (λ (f : List ℕ). f ++ tags_text false tags) (plain_front name (name_plain name named)) ∙ simp append_assoc
+page_pieces name tags named all =
+    page_is name tags all ∙ ap (λ (t : List ℕ). (codes "{\"name\":" ++ ((34 ∷ (t ++ (34 ∷ []))) ++ codes ",\"tags\":[")) ++ tags_text false tags) (plain_text name (plain_by is_name_byte name_byte name named)) ∙ simp append_assoc
 
 pub same_tags : (later : Bool) (a b : List (List ℕ)) → AllByRecursion IsTag a → AllByRecursion IsTag b → tags_text later a ≡ tags_text later b → a ≡ b
 same_tags later [] [] x y e = refl
@@ -161,8 +120,35 @@ link_is name n tag = link_assoc (codes "<") (codes "/v2/") name (codes "/tags/li
 pub link_pieces : (name : List ℕ) (n : ℕ) (tag : List ℕ) → link_text name n tag ≡ codes "</v2/" ++ (name ++ (codes "/tags/list?n=" ++ link_rest n tag))
 link_pieces name n tag = link_is name n tag ∙ simp append_assoc
 
+pub link_rest_free : (n : ℕ) (tag : List ℕ) → IsTag tag → IsFree 13 (link_rest n tag)
+link_rest_free n tag is =
+    let end = free_append 13 tag (codes ">; rel=\"next\"") (tag_free 13 tag refl is) (free_by_test 13 (codes ">; rel=\"next\"") refl) in
+    let last = free_append 13 (codes "&last=") (tag ++ codes ">; rel=\"next\"") (free_by_test 13 (codes "&last=") refl) end in
+    free_append 13 (decimal n) (codes "&last=" ++ (tag ++ codes ">; rel=\"next\"")) (decimal_free 13 n (omega arith)) last
+
+-- links to the same place
+pub same_link : (name : List ℕ) (n m : ℕ) (t u : List ℕ) → n < 2 ^ 64 → m < 2 ^ 64 → IsTag t → IsTag u → link_text name n t ≡ link_text name m u → (t ≡ u) × (n ≡ m)
+same_link name n m t u x y p q e =
+    let end : List ℕ = codes "; rel=\"next\"" in
+    let rest = cut_front (link_front name) (link_rest n t) (link_rest m u) (sym (link_is name n t) ∙ e ∙ link_is name m u) in
+    let number = same_ended 38 (decimal n) (decimal m) (codes "last=" ++ (t ++ (62 ∷ end))) (codes "last=" ++ (u ++ (62 ∷ end))) (decimal_free 38 n (omega arith)) (decimal_free 38 m (omega arith)) rest in
+    let last = cut_front (codes "last=") (t ++ (62 ∷ end)) (u ++ (62 ∷ end)) number.1 in
+    ((same_ended 62 t u end end (tag_free 62 t refl p) (tag_free 62 u refl q) last).0, decimal_injective n m x y number.0)
+
 -- the tag of a link, where it is found at its place
 pub linked_tag : {E : Type 0} (result : Result (Option (List ℕ)) E) (name link text : List ℕ) → ((n : ℕ) (tag : List ℕ) → IsTag tag → link ≡ link_text name n tag → text ≡ tag)
     → IfOk result (λ found. (tag : List ℕ) → IsTag tag → text ≡ tag → found ≡ Some tag) → IfOk result (λ found. (n : ℕ) (tag : List ℕ) → IsTag tag → link ≡ link_text name n tag → found ≡ Some tag)
 linked_tag (Ok found) name link text at read = λ n tag is e. read tag is (at n tag is e)
 linked_tag (Err e) name link text at read = tt
+
+-- the link to the next page, where there is one
+pub link_found : (name link : List ℕ) (value next : Option (List ℕ)) (n : ℕ) → value ≡ Some link → ((m : ℕ) (tag : List ℕ) → IsTag tag → link ≡ link_text name m tag → next ≡ Some tag)
+    → ((m : ℕ) (tag : List ℕ) → IsWord m → link ≡ link_text name m tag → m ≡ n) → (tag : Option (List ℕ)) (m : ℕ) → IfSome tag IsTag → IsWord m → value ≡ option_map (link_text name m) tag → ArePagesAlike tag m next n
+link_found name link value next n is tagged counted (Some tag) m real word e =
+    let same : link ≡ link_text name m tag = cc (e, is) in
+    subst (λ (o : Option (List ℕ)). ArePagesAlike (Some tag) m o n) (sym (tagged m tag real same)) (refl, counted m tag word same)
+link_found name link value next n is tagged counted None m real word e = cc (e, is)
+
+pub no_link_found : (name : List ℕ) (value : Option (List ℕ)) → value ≡ None → (tag : Option (List ℕ)) (m : ℕ) → IfSome tag IsTag → IsWord m → value ≡ option_map (link_text name m) tag → ArePagesAlike tag m None 0
+no_link_found name value is (Some tag) m real word e = cc (e, is)
+no_link_found name value is None m real word e = tt

@@ -1,35 +1,38 @@
--- The values that are seen of replies.
-use Rattle.std.proofs.Common.{◌≡◌, ℕ, Bool, true, false, List, Option, Some, None, refl, sym, ap, ap₂, subst, ◌∙◌, ◌⊎◌, inl, arith}
-use Rattle.std.specs.Borrow.{Bor}
+-- The values that are seen of replies, and those that are read of them.
+use Rattle.std.proofs.Common.{◌≡◌, ℕ, ◌-◌, Bool, true, false, List, Option, Some, None, refl, sym, ap, ap₂, subst, ◌∙◌, arith}
 use Rattle.std.specs.Fmt.{decimal}
-use Rattle.std.specs.List.{AllByRecursion}
-use Rattle.std.specs.Option.{option_copied}
-use Rattle.std.specs.Prelude.{IfSome, option_and_then, option_map, is_some, ⊤}
+use Rattle.std.specs.Int.{w64, from_be_bytes, to_be_bytes}
+use Rattle.std.specs.Prelude.{IfSome, codes, option_and_then, option_map, ⊤}
+use Rattle.std.proofs.lemmas.Fmt.{decimal_injective}
+use Rattle.std.proofs.lemmas.Nat.{from_be_bytes-to_be_bytes_8}
+use Rattle.hex.specs.Hex.{decode_sized}
 use Rattle.zot_digest.proofs.DigestLemmas.{digest_named-digest_text}
 use Rattle.zot_digest.specs.Digest.{IsDigest, digest_named, digest_text}
+use Rattle.zot_media.proofs.MediaLemmas.{named_text}
 use Rattle.zot_media.specs.declared.media.Media.{Media}
-use Rattle.zot_media.specs.Media.{media_text}
+use Rattle.zot_media.specs.Media.{media_named, media_text}
+use Rattle.zot_model.specs.Calls.{is_head}
+use Rattle.zot_model.specs.declared.call.Call.{Call}
+use Rattle.zot_model.specs.declared.call.Call.TheVariants as calls
 use Rattle.zot_model.specs.declared.code.Code.{Code}
 use Rattle.zot_model.specs.declared.detail.Detail.TheVariants as details
 use Rattle.zot_model.specs.declared.mount.Mount.{Mount}
 use Rattle.zot_model.specs.declared.reply.Reply.{Reply}
 use Rattle.zot_model.specs.declared.reply.Reply.TheVariants as replies
-use Rattle.zot_model.specs.Fits.{IsBegun, IsBlob, IsBlobHead, IsBlobMade, IsManifest, IsManifestHead, IsManifestMade, IsOfUpload, IsPage, IsPosted, IsReferrers, IsSession}
-use Rattle.zot_model.specs.Values.{IsWord}
+use Rattle.zot_model.specs.Fits.{IsBase, IsBlob, IsBlobHead, IsBlobMade, IsDeleted, IsManifest, IsManifestHead, IsManifestMade, IsPage, IsPosted, IsReferrers, IsSession, IsSuccessOf}
+use Rattle.zot_model.specs.Values.{IsReal, IsWord}
+use Rattle.zot_names.proofs.UploadLemmas.{decode_sized-upload_text}
 use Rattle.zot_names.specs.Tag.{IsTag}
 use Rattle.zot_names.specs.Upload.{upload_text}
-use Rattle.zot_spell.specs.Alike.{ArePagesAlike, AreSizesAlike}
-use Rattle.zot_spell.specs.Bodies.{page_body}
-use Rattle.zot_spell.specs.declared.field.Field.{Field}
+use Rattle.zot_spell.specs.Alike.{AreAlike, ArePagesAlike}
+use Rattle.zot_spell.specs.declared.field_name.FieldName.{FieldName}
 use Rattle.zot_spell.specs.declared.field_name.FieldName.TheVariants as names
 use Rattle.zot_spell.specs.Fields.{closing_fields, filter_fields, length_fields, link_fields, link_text, range_text, subject_fields, upload_fields}
-use Rattle.zot_spell.specs.Heads.{field_of, length_field_of, name_text, type_fields, value_in}
+use Rattle.zot_spell.specs.Heads.{field_of, length_field_of, name_text, type_fields}
 use Rattle.zot_spell.specs.Spelling.{all_fields, parts_of, refusal_fields, shown_body}
-use Rattle.zot_reply.specs.Reading.{Covers, Finds, Has, IsPosting, IsSeen, IsUpload, Says, Seen, seen_in}
-
--- the fields of a reply, to a request on the repository of the name
-abbrev pub fields_of : List ℕ → Reply → Bool → List Field
-fields_of name reply close = all_fields (parts_of name reply) close
+use Rattle.zot_spell.proofs.CutLemmas.{cut_front}
+use Rattle.zot_reply.proofs.PageLemmas.{same_link, same_pages}
+use Rattle.zot_reply.specs.Reading.{Finds, FindsSize, Has, IsPageFrom, IsPosting, IsReadFrom, IsSeen, IsSuccessFrom, IsUpload, Says, Seen, seen_in}
 
 -- what is seen of a reply says its values
 pub says : (name : List ℕ) (reply : Reply) (head close : Bool) → Says name head (seen_in name reply head close) reply
@@ -60,111 +63,195 @@ refusal_says name status code id size head close = (refl, refl)
 pub seen_says : (name : List ℕ) (head : Bool) (reply : Reply) (seen : Seen) → IsSeen name head reply seen → Says name head seen reply
 seen_says name head reply seen (close, is) = subst (λ (s : Seen). Says name head s reply) (sym is) (says name reply head close)
 
-pub some_copied : (o : Option (Bor (List ℕ))) → is_some o ≡ is_some (option_copied o)
-some_copied None = refl
-some_copied (Some x) = refl
+-- ---- values with the same texts
+
+some_back : {A : Type 0} (a x : A) → Some a ≡ Some x → a ≡ x
+some_back a x h = cc h
+
+pub same_digest : (d f : List ℕ) → IsDigest d → IsDigest f → digest_text d ≡ digest_text f → d ≡ f
+same_digest d f x y e = some_back d f (sym (digest_named-digest_text d x) ∙ ap digest_named e ∙ digest_named-digest_text f y)
+
+same_id : (i j : ℕ) → IsWord i → IsWord j → upload_text i ≡ upload_text j → i ≡ j
+same_id i j x y e =
+    let bytes : to_be_bytes w64 i ≡ to_be_bytes w64 j = cc (decode_sized-upload_text i, ap (λ (t : List ℕ). decode_sized t 8) e, decode_sized-upload_text j) in
+    sym (from_be_bytes-to_be_bytes_8 i x) ∙ ap (from_be_bytes w64) bytes ∙ from_be_bytes-to_be_bytes_8 j y
+
+same_media : (media other : Media) → media_text media ≡ media_text other → media ≡ other
+same_media media other e = some_back media other (sym (named_text media) ∙ ap media_named e ∙ named_text other)
 
 subject_back : (subject value : Option (List ℕ)) → IfSome subject IsDigest → value ≡ option_map digest_text subject → option_and_then digest_named value ≡ subject
 subject_back None value is e = ap (option_and_then digest_named) e
 subject_back (Some digest) value is e = ap (option_and_then digest_named) e ∙ digest_named-digest_text digest is
 
--- ---- the reply of a kind that has the values which are found
+-- ---- what is seen of a reply is read as its values
 
-pub blob_found : (name : List ℕ) (seen : Seen) (digest bytes : List ℕ) → Finds IsDigest digest_text seen names.ContentDigest digest → bytes ≡ seen.body → Covers IsBlob false name seen (replies.Blob digest bytes)
+finds : {A : Type 0} (Is : A → Type 0) (text : A → List ℕ) (seen : Seen) (name : FieldName) (b : A) → ((x : A) → Is x → text x ≡ text b → x ≡ b) → Has seen name (text b) → Finds Is text seen name b
+finds Is text seen name b one has = λ x is h. one x is (some_back (text x) (text b) (sym h ∙ has))
+
+finds_digest : (seen : Seen) (digest : List ℕ) → IsDigest digest → Has seen names.ContentDigest (digest_text digest) → Finds IsDigest digest_text seen names.ContentDigest digest
+finds_digest seen digest real has = finds IsDigest digest_text seen names.ContentDigest digest (λ d is e. same_digest d digest is real e) has
+
+finds_media : (seen : Seen) (media : Media) → Has seen names.ContentType (media_text media) → Finds (λ media. ⊤) media_text seen names.ContentType media
+finds_media seen media has = finds (λ media. ⊤) media_text seen names.ContentType media (λ m is e. same_media m media e) has
+
+finds_length : (seen : Seen) (size : ℕ) → IsWord size → Has seen names.ContentLength (decimal size) → Finds IsWord decimal seen names.ContentLength size
+finds_length seen size real has = finds IsWord decimal seen names.ContentLength size (λ n is e. decimal_injective n size is real e) has
+
+pub finds_id : (seen : Seen) (id : ℕ) → IsWord id → Has seen names.UploadId (upload_text id) → Finds IsWord upload_text seen names.UploadId id
+finds_id seen id real has = finds IsWord upload_text seen names.UploadId id (λ i is e. same_id i id is real e) has
+
+pub finds_size : (seen : Seen) (size : ℕ) → IsWord size → Has seen names.Range (range_text size) → FindsSize seen size
+unfolding range_text
+finds_size seen size real has = λ n is h.
+    decimal_injective (n - 1) (size - 1) (omega (arith, is)) (omega (arith, real)) (cut_front (codes "0-") (decimal (n - 1)) (decimal (size - 1)) (some_back (range_text n) (range_text size) (sym h ∙ has)))
+
+next_alike : (name : List ℕ) (t u : Option (List ℕ)) (m n : ℕ) → IfSome t IsTag → IfSome u IsTag → IsWord m → IsWord n → option_map (link_text name m) t ≡ option_map (link_text name n) u → ArePagesAlike t m u n
+next_alike name None None m n p q x y e = tt
+next_alike name (Some t) (Some u) m n p q x y e = same_link name m n t u x y p q (some_back (link_text name m t) (link_text name n u) e)
+next_alike name None (Some u) m n p q x y e = cc e
+next_alike name (Some t) None m n p q x y e = cc e
+
+read_back : (name : List ℕ) (seen : Seen) (reply : Reply) → IsReal reply → Says name false seen reply → IsReadFrom seen reply
 unfolding shown_body
-blob_found name seen digest bytes finds body (replies.Blob d b) kind real says = ap₂ replies.Blob (finds d real says.0) (sym (body ∙ says.1))
-blob_found name seen digest bytes finds body reply kind real says = absurd kind
+read_back name seen (replies.Blob digest bytes) real says = (finds_digest seen digest real says.0, sym says.1)
+read_back name seen (replies.BlobHead digest size) real says = (finds_digest seen digest real.0 says.0, finds_length seen size real.1 says.1)
+read_back name seen (replies.BlobMade digest) real says = finds_digest seen digest real says.0
+read_back name seen (replies.Session id size status) real says = (finds_id seen id real.0 says.0, finds_size seen size real.1 says.1, sym says.2)
+read_back name seen (replies.ManifestMade digest subject) real says = (finds_digest seen digest real.0 says.0, sym (subject_back subject _ real.1 says.1))
+read_back name seen (replies.Manifest digest media bytes) real says = (finds_digest seen digest real says.0, finds_media seen media says.1, sym says.2)
+read_back name seen (replies.ManifestHead digest media size) real says = (finds_digest seen digest real.0 says.0, finds_media seen media says.1, finds_length seen size real.1 says.2)
+read_back name seen (replies.Referrers text filtered) real says = (sym says.0, sym says.1)
+read_back name seen reply real says = tt
 
-pub head_found : (name : List ℕ) (seen : Seen) (digest : List ℕ) (size : ℕ) → Finds IsDigest digest_text seen names.ContentDigest digest → Finds IsWord decimal seen names.ContentLength size
-    → Covers IsBlobHead true name seen (replies.BlobHead digest size)
-head_found name seen digest size finds long (replies.BlobHead d n) kind real says = ap₂ replies.BlobHead (finds d real.0 says.0) (long n real.1 says.1)
-head_found name seen digest size finds long reply kind real says = absurd kind
-
-pub made_found : (name : List ℕ) (seen : Seen) (digest : List ℕ) → Finds IsDigest digest_text seen names.ContentDigest digest → Covers IsBlobMade false name seen (replies.BlobMade digest)
-made_found name seen digest finds (replies.BlobMade d) kind real says = ap replies.BlobMade (finds d real says.0)
-made_found name seen digest finds reply kind real says = absurd kind
-
-pub upload_found : (name : List ℕ) (seen : Seen) (id size : ℕ) → Finds IsWord upload_text seen names.UploadId id → ((n : ℕ) → IsWord n → Has seen names.Range (range_text n) → AreSizesAlike n size)
-    → Covers IsUpload false name seen (replies.Session id size seen.status)
-upload_found name seen id size finds long (replies.Session i n status) kind real says = (finds i real.0 says.0, long n real.1 says.1, sym says.2)
-upload_found name seen id size finds long reply kind real says = absurd kind
-
-pub manifest_made_found : (name : List ℕ) (seen : Seen) (digest : List ℕ) (subject : Option (List ℕ)) → Finds IsDigest digest_text seen names.ContentDigest digest
-    → subject ≡ option_and_then digest_named (value_in (name_text names.Subject) seen.fields) → Covers IsManifestMade false name seen (replies.ManifestMade digest subject)
-manifest_made_found name seen digest subject finds of (replies.ManifestMade d s) kind real says = ap₂ replies.ManifestMade (finds d real.0 says.0) (sym (of ∙ subject_back s _ real.1 says.1))
-manifest_made_found name seen digest subject finds of reply kind real says = absurd kind
-
-pub manifest_found : (name : List ℕ) (seen : Seen) (digest : List ℕ) (media : Media) (bytes : List ℕ) → Finds IsDigest digest_text seen names.ContentDigest digest
-    → Finds (λ media. ⊤) media_text seen names.ContentType media → bytes ≡ seen.body → Covers IsManifest false name seen (replies.Manifest digest media bytes)
+page_back : (name : List ℕ) (seen : Seen) (reply : Reply) → IsPage reply → IsReal reply → Says name false seen reply → IsPageFrom name seen reply
 unfolding shown_body
-manifest_found name seen digest media bytes finds typed body (replies.Manifest d m b) kind real says =
-    let same : d ≡ digest = finds d real says.0 in
-    let one : m ≡ media = typed m tt says.1 in
-    let whole : b ≡ bytes = sym (body ∙ says.2) in
+page_back name seen (replies.Tags tags next n) kind real says =
+    ((λ all are e. same_pages name all tags are real.0 (sym e ∙ says.0)), (λ tag m is long h. next_alike name tag next m n is real.1 long real.2 (sym h ∙ says.1)))
+page_back name seen reply kind real says = absurd kind
+
+posting_back : (name : List ℕ) (mount : Option Mount) (digest : Option (List ℕ)) (seen : Seen) (reply : Reply) → IsPosted mount digest reply → Says name false seen reply → IsPosting seen reply
+posting_back name mount digest seen (replies.BlobMade made) h says = says.1
+posting_back name mount None seen (replies.Session id size status) h says = λ e. absurd (omega (arith, e, says.2, h))
+posting_back name mount None seen reply h says = absurd h
+posting_back name mount (Some digest) seen reply h says = absurd h
+
+upload_of : (status : ℕ) (reply : Reply) → IsSession status reply → IsUpload reply
+upload_of status (replies.Session id size other) h = tt
+upload_of status reply h = absurd h
+
+pub success_back : (name : List ℕ) (call : Call) (seen : Seen) (reply : Reply) → IsSuccessOf call reply → IsReal reply → Says name (is_head call) seen reply → IsSuccessFrom name call seen reply
+success_back name (calls.HeadBlob digest) seen (replies.BlobHead d n) h real says = (tt, read_back name seen (replies.BlobHead d n) real says)
+success_back name (calls.HeadBlob digest) seen reply h real says = absurd h
+success_back name (calls.HeadManifest reference) seen (replies.ManifestHead d m n) h real says = (tt, read_back name seen (replies.ManifestHead d m n) real says)
+success_back name (calls.HeadManifest reference) seen reply h real says = absurd h
+success_back name (calls.Post mount digest body) seen reply h real says = (posting_back name mount digest seen reply h says, read_back name seen reply real says)
+success_back name (calls.Patch None range body) seen reply h real says = absurd h
+success_back name (calls.Patch (Some id) range body) seen reply h real says = (upload_of 202 reply h, read_back name seen reply real says)
+success_back name (calls.Finish None range digest body) seen reply h real says = absurd h
+success_back name (calls.UploadState None) seen reply h real says = absurd h
+success_back name (calls.UploadState (Some id)) seen reply h real says = (upload_of 204 reply h, read_back name seen reply real says)
+success_back name (calls.Tags n last) seen reply h real says = (page_back name seen reply h real says, read_back name seen reply real says)
+success_back name call seen reply h real says = (h, read_back name seen reply real says)
+
+-- ---- what is read is alike to the success that is seen
+
+-- each reply of the first kind, whose values are seen, is alike to the one of the second kind that is read
+abbrev AreReadAlike : Bool → (Reply → Type 0) → (Reply → Type 0) → Type 0
+AreReadAlike head Kind Other = (name : List ℕ) (seen : Seen) (a b : Reply) → Kind a → IsReal a → Says name head seen a → Other b → IsReadFrom seen b → AreAlike head a b
+
+bases : AreReadAlike false IsBase IsBase
+bases name seen replies.Base replies.Base h real says k read = refl
+bases name seen replies.Base b h real says k read = absurd k
+bases name seen a b h real says k read = absurd h
+
+deletions : AreReadAlike false IsDeleted IsDeleted
+deletions name seen replies.Deleted replies.Deleted h real says k read = refl
+deletions name seen replies.Deleted b h real says k read = absurd k
+deletions name seen a b h real says k read = absurd h
+
+blobs : AreReadAlike false IsBlob IsBlob
+unfolding shown_body
+blobs name seen (replies.Blob d v) (replies.Blob f w) h real says k read = ap₂ replies.Blob (read.0 d real says.0) (sym says.1 ∙ sym read.1)
+blobs name seen (replies.Blob d v) b h real says k read = absurd k
+blobs name seen a b h real says k read = absurd h
+
+blob_heads : AreReadAlike true IsBlobHead IsBlobHead
+blob_heads name seen (replies.BlobHead d n) (replies.BlobHead f m) h real says k read = ap₂ replies.BlobHead (read.0 d real.0 says.0) (read.1 n real.1 says.1)
+blob_heads name seen (replies.BlobHead d n) b h real says k read = absurd k
+blob_heads name seen a b h real says k read = absurd h
+
+blobs_made : AreReadAlike false IsBlobMade IsBlobMade
+blobs_made name seen (replies.BlobMade d) (replies.BlobMade f) h real says k read = ap replies.BlobMade (read d real says.0)
+blobs_made name seen (replies.BlobMade d) b h real says k read = absurd k
+blobs_made name seen a b h real says k read = absurd h
+
+uploads : (status : ℕ) (name : List ℕ) (seen : Seen) (a b : Reply) → IsSession status a → IsReal a → Says name false seen a → IsUpload b → IsReadFrom seen b → AreAlike false a b × IsSession status b
+uploads status name seen (replies.Session i n s) (replies.Session j m t) h real says k read = ((read.0 i real.0 says.0, read.1 n real.1 says.1, sym says.2 ∙ sym read.2), read.2 ∙ says.2 ∙ h)
+uploads status name seen (replies.Session i n s) b h real says k read = absurd k
+uploads status name seen a b h real says k read = absurd h
+
+postings : (name : List ℕ) (mount : Option Mount) (digest : Option (List ℕ)) (seen : Seen) (a b : Reply) → IsPosted mount digest a → IsReal a → Says name false seen a → IsPosting seen b → IsReadFrom seen b → AreAlike false a b × IsPosted mount digest b
+postings name mount None seen (replies.BlobMade d) (replies.BlobMade f) h real says k read = (blobs_made name seen (replies.BlobMade d) (replies.BlobMade f) tt real says tt read, h)
+postings name mount (Some digest) seen (replies.BlobMade d) (replies.BlobMade f) h real says k read = (blobs_made name seen (replies.BlobMade d) (replies.BlobMade f) tt real says tt read, tt)
+postings name mount None seen (replies.Session i n s) (replies.Session j m t) h real says k read = uploads 202 name seen (replies.Session i n s) (replies.Session j m t) h real says tt read
+postings name mount digest seen (replies.BlobMade d) (replies.Session j m t) h real says k read = absurd (k says.1)
+postings name mount None seen (replies.Session i n s) (replies.BlobMade f) h real says k read = absurd (omega (arith, k, says.2, h))
+postings name mount digest seen (replies.BlobMade d) b h real says k read = absurd k
+postings name mount None seen (replies.Session i n s) b h real says k read = absurd k
+postings name mount None seen a b h real says k read = absurd h
+postings name mount (Some digest) seen a b h real says k read = absurd h
+
+manifests_made : AreReadAlike false IsManifestMade IsManifestMade
+manifests_made name seen (replies.ManifestMade d v) (replies.ManifestMade f w) h real says k read = ap₂ replies.ManifestMade (read.0 d real.0 says.0) (sym (read.1 ∙ subject_back v _ real.1 says.1))
+manifests_made name seen (replies.ManifestMade d v) b h real says k read = absurd k
+manifests_made name seen a b h real says k read = absurd h
+
+manifests : AreReadAlike false IsManifest IsManifest
+unfolding shown_body
+manifests name seen (replies.Manifest d u v) (replies.Manifest f t w) h real says k read =
+    let digest : d ≡ f = read.0 d real says.0 in
+    let media : u ≡ t = read.1 u tt says.1 in
+    let bytes : v ≡ w = sym says.2 ∙ sym read.2 in
     cc
-manifest_found name seen digest media bytes finds typed body reply kind real says = absurd kind
+manifests name seen (replies.Manifest d u v) b h real says k read = absurd k
+manifests name seen a b h real says k read = absurd h
 
-pub manifest_head_found : (name : List ℕ) (seen : Seen) (digest : List ℕ) (media : Media) (size : ℕ) → Finds IsDigest digest_text seen names.ContentDigest digest
-    → Finds (λ media. ⊤) media_text seen names.ContentType media → Finds IsWord decimal seen names.ContentLength size → Covers IsManifestHead true name seen (replies.ManifestHead digest media size)
-manifest_head_found name seen digest media size finds typed long (replies.ManifestHead d m n) kind real says =
-    let same : d ≡ digest = finds d real.0 says.0 in
-    let one : m ≡ media = typed m tt says.1 in
-    let sized : n ≡ size = long n real.1 says.2 in
+manifest_heads : AreReadAlike true IsManifestHead IsManifestHead
+manifest_heads name seen (replies.ManifestHead d u n) (replies.ManifestHead f t m) h real says k read =
+    let digest : d ≡ f = read.0 d real.0 says.0 in
+    let media : u ≡ t = read.1 u tt says.1 in
+    let size : n ≡ m = read.2 n real.1 says.2 in
     cc
-manifest_head_found name seen digest media size finds typed long reply kind real says = absurd kind
+manifest_heads name seen (replies.ManifestHead d u n) b h real says k read = absurd k
+manifest_heads name seen a b h real says k read = absurd h
 
-pub index_found : (name : List ℕ) (seen : Seen) (text : List ℕ) (filtered : Bool) → text ≡ seen.body → filtered ≡ is_some (value_in (name_text names.FiltersApplied) seen.fields)
-    → Covers IsReferrers false name seen (replies.Referrers text filtered)
+pages : (name : List ℕ) (seen : Seen) (a b : Reply) → IsPage a → IsReal a → Says name false seen a → IsPageFrom name seen b → AreAlike false a b × IsPage b
 unfolding shown_body
-index_found name seen text filtered body has (replies.Referrers t f) kind real says = ap₂ replies.Referrers (sym (body ∙ says.0)) (sym (has ∙ says.1))
-index_found name seen text filtered body has reply kind real says = absurd kind
+pages name seen (replies.Tags v t n) (replies.Tags w u m) h real says k = ((k.0 v real.0 says.0, k.1 t n real.1 real.2 says.1), tt)
+pages name seen (replies.Tags v t n) b h real says k = absurd k
+pages name seen a b h real says k = absurd h
 
-pub page_found : (name : List ℕ) (seen : Seen) (tags : List (List ℕ)) (next : Option (List ℕ)) (n : ℕ) → ((all : List (List ℕ)) → AllByRecursion IsTag all → seen.body ≡ page_body name all → all ≡ tags)
-    → ((tag : Option (List ℕ)) (m : ℕ) → IfSome tag IsTag → IsWord m → value_in (name_text names.Link) seen.fields ≡ option_map (link_text name m) tag → ArePagesAlike tag m next n)
-    → Covers IsPage false name seen (replies.Tags tags next n)
+indexes : AreReadAlike false IsReferrers IsReferrers
 unfolding shown_body
-page_found name seen tags next n listed linked (replies.Tags all tag m) kind real says = (listed all real.0 says.0, linked tag m real.1 real.2 says.1)
-page_found name seen tags next n listed linked reply kind real says = absurd kind
+indexes name seen (replies.Referrers v t) (replies.Referrers w u) h real says k read = ap₂ replies.Referrers (sym says.0 ∙ sym read.0) (sym says.1 ∙ sym read.1)
+indexes name seen (replies.Referrers v t) b h real says k read = absurd k
+indexes name seen a b h real says k read = absurd h
 
--- the link to the next page, where there is one
-pub link_found : (name link : List ℕ) (value next : Option (List ℕ)) (n : ℕ) → value ≡ Some link → ((m : ℕ) (tag : List ℕ) → IsTag tag → link ≡ link_text name m tag → next ≡ Some tag)
-    → ((m : ℕ) (tag : List ℕ) → IsWord m → link ≡ link_text name m tag → m ≡ n) → (tag : Option (List ℕ)) (m : ℕ) → IfSome tag IsTag → IsWord m → value ≡ option_map (link_text name m) tag → ArePagesAlike tag m next n
-link_found name link value next n is tagged counted (Some tag) m real word e =
-    let same : link ≡ link_text name m tag = cc (e, is) in
-    subst (λ (o : Option (List ℕ)). ArePagesAlike (Some tag) m o n) (sym (tagged m tag real same)) (refl, counted m tag word same)
-link_found name link value next n is tagged counted None m real word e = cc (e, is)
-
-pub no_link_found : (name : List ℕ) (value : Option (List ℕ)) → value ≡ None → (tag : Option (List ℕ)) (m : ℕ) → IfSome tag IsTag → IsWord m → value ≡ option_map (link_text name m) tag → ArePagesAlike tag m None 0
-no_link_found name value is (Some tag) m real word e = cc (e, is)
-no_link_found name value is None m real word e = tt
-
--- ---- kinds of replies
-
-pub of_upload : (id : Option ℕ) (status : ℕ) → (status ≡ 202) ⊎ (status ≡ 204) → (reply : Reply) → IsOfUpload id (IsSession status) reply → IsUpload reply
-of_upload None status s reply h = absurd h
-of_upload (Some id) status s (replies.Session i n t) h = subst (λ (r : ℕ). (r ≡ 202) ⊎ (r ≡ 204)) (sym h) s
-of_upload (Some id) status s reply h = absurd h
-
-pub of_finish : (id : Option ℕ) (reply : Reply) → IsOfUpload id IsBlobMade reply → IsBlobMade reply
-of_finish None reply h = absurd h
-of_finish (Some id) reply h = h
-
-pub posting_of : (mount : Option Mount) (reply : Reply) → IsBegun mount reply → IsPosting reply
-posting_of mount (replies.BlobMade digest) h = tt
-posting_of mount (replies.Session id size status) h = h
-posting_of mount reply h = absurd h
-
-pub of_post : (mount : Option Mount) (digest : Option (List ℕ)) (reply : Reply) → IsPosted mount digest reply → IsPosting reply
-of_post mount None reply h = posting_of mount reply h
-of_post mount (Some digest) (replies.BlobMade made) h = tt
-of_post mount (Some digest) reply h = absurd h
-
-pub posting_made : (name : List ℕ) (seen : Seen) (found : Reply) → seen.status ≡ 201 → Covers IsBlobMade false name seen found → Covers IsPosting false name seen found
-posting_made name seen found s h (replies.BlobMade digest) kind real says = h (replies.BlobMade digest) tt real says
-posting_made name seen found s h (replies.Session id size status) kind real says = absurd (omega (arith, s, says.2, kind))
-posting_made name seen found s h reply kind real says = absurd kind
-
-pub posting_upload : (name : List ℕ) (seen : Seen) (found : Reply) → (seen.status ≡ 201 → ⊥) → Covers IsUpload false name seen found → Covers IsPosting false name seen found
-posting_upload name seen found s h (replies.BlobMade digest) kind real says = absurd (s says.1)
-posting_upload name seen found s h (replies.Session id size status) kind real says = h (replies.Session id size status) (inl kind) real says
-posting_upload name seen found s h reply kind real says = absurd kind
+pub success_alike : (name : List ℕ) (call : Call) (seen : Seen) (a b : Reply) → IsSuccessOf call a → IsReal a → Says name (is_head call) seen a → IsSuccessFrom name call seen b → AreAlike (is_head call) a b × IsSuccessOf call b
+success_alike name calls.Base seen a b h real says r = (bases name seen a b h real says r.0 r.1, r.0)
+success_alike name (calls.GetBlob digest) seen a b h real says r = (blobs name seen a b h real says r.0 r.1, r.0)
+success_alike name (calls.HeadBlob digest) seen a b h real says r = (blob_heads name seen a b h real says r.0 r.1, r.0)
+success_alike name (calls.DeleteBlob digest) seen a b h real says r = (deletions name seen a b h real says r.0 r.1, r.0)
+success_alike name (calls.Post mount digest body) seen a b h real says r = postings name mount digest seen a b h real says r.0 r.1
+success_alike name (calls.Patch None range body) seen a b h real says r = absurd h
+success_alike name (calls.Patch (Some id) range body) seen a b h real says r = uploads 202 name seen a b h real says r.0 r.1
+success_alike name (calls.Finish None range digest body) seen a b h real says r = absurd h
+success_alike name (calls.Finish (Some id) range digest body) seen a b h real says r = (blobs_made name seen a b h real says r.0 r.1, r.0)
+success_alike name (calls.UploadState None) seen a b h real says r = absurd h
+success_alike name (calls.UploadState (Some id)) seen a b h real says r = uploads 204 name seen a b h real says r.0 r.1
+success_alike name (calls.PutManifest reference media body) seen a b h real says r = (manifests_made name seen a b h real says r.0 r.1, r.0)
+success_alike name (calls.GetManifest reference) seen a b h real says r = (manifests name seen a b h real says r.0 r.1, r.0)
+success_alike name (calls.HeadManifest reference) seen a b h real says r = (manifest_heads name seen a b h real says r.0 r.1, r.0)
+success_alike name (calls.DeleteManifest reference) seen a b h real says r = (deletions name seen a b h real says r.0 r.1, r.0)
+success_alike name (calls.Tags n last) seen a b h real says r = pages name seen a b h real says r.0
+success_alike name (calls.Referrers digest filter) seen a b h real says r = (indexes name seen a b h real says r.0 r.1, r.0)

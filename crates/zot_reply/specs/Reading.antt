@@ -1,18 +1,21 @@
 -- Replies read back from their bytes.
-use Rattle.std.specs.Prelude.{◌≡◌, ℕ, Bool, List, Some, is_some, option_map, ⊤, ◌⊎◌}
+use Rattle.std.specs.Prelude.{◌≡◌, ◌≢◌, ℕ, Bool, List, Option, Some, IfSome, is_some, option_and_then, option_map, ⊤}
+use Rattle.std.specs.List.{AllByRecursion}
 use Rattle.std.specs.Fmt.{decimal}
-use Rattle.zot_digest.specs.Digest.{digest_text}
+use Rattle.zot_digest.specs.Digest.{IsDigest, digest_named, digest_text}
+use Rattle.zot_media.specs.declared.media.Media.{Media}
 use Rattle.zot_media.specs.Media.{media_text}
 use Rattle.zot_model.specs.Calls.{is_head}
-use Rattle.zot_model.specs.Codes.{HasDetail, status_of}
-use Rattle.zot_model.specs.declared.code.Code.{Code}
+use Rattle.zot_model.specs.declared.call.Call.{Call}
+use Rattle.zot_model.specs.declared.call.Call.TheVariants as calls
 use Rattle.zot_model.specs.declared.reply.Reply.{Reply}
 use Rattle.zot_model.specs.declared.reply.Reply.TheVariants as replies
 use Rattle.zot_model.specs.declared.request.Request.{Request}
-use Rattle.zot_model.specs.Fits.{Fits, IsAmong}
-use Rattle.zot_model.specs.Values.{IsReal}
+use Rattle.zot_model.specs.Fits.{Fits, IsBlobMade, IsSuccessOf}
+use Rattle.zot_model.specs.Values.{IsReal, IsWord}
+use Rattle.zot_names.specs.Tag.{IsTag}
 use Rattle.zot_names.specs.Upload.{upload_text}
-use Rattle.zot_spell.specs.Alike.{AreAlike}
+use Rattle.zot_spell.specs.Alike.{ArePagesAlike, AreSizesAlike}
 use Rattle.zot_spell.specs.Bodies.{page_body}
 use Rattle.zot_spell.specs.declared.field.Field.{Field}
 use Rattle.zot_spell.specs.declared.field_name.FieldName.{FieldName}
@@ -54,15 +57,11 @@ pub record IsWanted (request : Request) (reply : Reply) (bytes : List ℕ) (seen
   pub spells : Spells request reply bytes
   pub is_seen : IsSeen (name_in (Some request)) (is_head request.call) reply seen
 
--- ---- values
+-- ---- what the replies say that are seen
 
 -- the first field of the name has this value
 abbrev pub Has : Seen → FieldName → List ℕ → Type 0
 Has seen name text = value_in (name_text name) seen.fields ≡ Some text
-
--- the value of which the field of the name has the text is this one
-abbrev pub Finds : {A : Type 0} → (A → Type 0) → (A → List ℕ) → Seen → FieldName → A → Type 0
-Finds {A} Is text seen name found = (value : A) → Is value → Has seen name (text value) → value ≡ found
 
 -- what is seen of a reply to a request on the repository of the name, where it is no refusal, says its values
 abbrev pub Says : List ℕ → Bool → Seen → Reply → Type 0
@@ -77,29 +76,82 @@ Says name head seen (replies.Tags tags next n) = (seen.body ≡ shown_body head 
 Says name head seen (replies.Referrers text filtered) = (seen.body ≡ shown_body head text) × (is_some (value_in (name_text names.FiltersApplied) seen.fields) ≡ filtered)
 Says name head seen _ = ⊤
 
--- each reply of the kind whose values are seen is spelled like the one that is found
-abbrev pub Covers : (Reply → Type 0) → Bool → List ℕ → Seen → Reply → Type 0
-Covers Kind head name seen found = (reply : Reply) → Kind reply → IsReal reply → Says name head seen reply → AreAlike head reply found
+-- ---- what is read of them
+
+-- the value of which the field of the name has the text is this one
+abbrev pub Finds : {A : Type 0} → (A → Type 0) → (A → List ℕ) → Seen → FieldName → A → Type 0
+Finds {A} Is text seen name found = (value : A) → Is value → Has seen name (text value) → value ≡ found
+
+abbrev pub FindsContent : Seen → List ℕ → Type 0
+FindsContent seen digest = Finds IsDigest digest_text seen names.ContentDigest digest
+
+abbrev pub FindsMedia : Seen → Media → Type 0
+FindsMedia seen media = Finds (λ media. ⊤) media_text seen names.ContentType media
+
+abbrev pub FindsLength : Seen → ℕ → Type 0
+FindsLength seen size = Finds IsWord decimal seen names.ContentLength size
+
+abbrev pub FindsId : Seen → ℕ → Type 0
+FindsId seen id = Finds IsWord upload_text seen names.UploadId id
+
+-- the size of the upload whose range is seen
+abbrev pub FindsSize : Seen → ℕ → Type 0
+FindsSize seen size = (n : ℕ) → IsWord n → Has seen names.Range (range_text n) → AreSizesAlike n size
+
+abbrev pub FindsSubject : Seen → Option (List ℕ) → Type 0
+FindsSubject seen subject = subject ≡ option_and_then digest_named (value_in (name_text names.Subject) seen.fields)
+
+-- the tags of the page that is seen, and the next page to which it has a link
+abbrev pub FindsTags : List ℕ → Seen → List (List ℕ) → Type 0
+FindsTags name seen tags = (all : List (List ℕ)) → AllByRecursion IsTag all → seen.body ≡ page_body name all → all ≡ tags
+
+abbrev pub FindsNext : List ℕ → Seen → Option (List ℕ) → ℕ → Type 0
+FindsNext name seen next n = (tag : Option (List ℕ)) (m : ℕ) → IfSome tag IsTag → IsWord m
+    → value_in (name_text names.Link) seen.fields ≡ option_map (link_text name m) tag → ArePagesAlike tag m next n
+
+-- the values of a reply are those that are seen; those of a page of tags are asked by `IsPageFrom`
+abbrev pub IsReadFrom : Seen → Reply → Type 0
+IsReadFrom seen (replies.Blob digest bytes) = FindsContent seen digest × (bytes ≡ seen.body)
+IsReadFrom seen (replies.BlobHead digest size) = FindsContent seen digest × FindsLength seen size
+IsReadFrom seen (replies.BlobMade digest) = FindsContent seen digest
+IsReadFrom seen (replies.Session id size status) = FindsId seen id × FindsSize seen size × (status ≡ seen.status)
+IsReadFrom seen (replies.ManifestMade digest subject) = FindsContent seen digest × FindsSubject seen subject
+IsReadFrom seen (replies.Manifest digest media bytes) = FindsContent seen digest × FindsMedia seen media × (bytes ≡ seen.body)
+IsReadFrom seen (replies.ManifestHead digest media size) = FindsContent seen digest × FindsMedia seen media × FindsLength seen size
+IsReadFrom seen (replies.Referrers text filtered) = (text ≡ seen.body) × (filtered ≡ is_some (value_in (name_text names.FiltersApplied) seen.fields))
+IsReadFrom seen _ = ⊤
 
 -- ---- kinds
 
--- an upload, with a status that isn't that of a blob which was stored
+-- a page of tags of the repository of the name, as it is seen
+abbrev pub IsPageFrom : List ℕ → Seen → Reply → Type 0
+IsPageFrom name seen (replies.Tags tags next n) = FindsTags name seen tags × FindsNext name seen next n
+IsPageFrom name seen _ = ⊥
+
+-- an upload, whatever its status
 abbrev pub IsUpload : Reply → Type 0
-IsUpload (replies.Session id size status) = (status ≡ 202) ⊎ (status ≡ 204)
+IsUpload (replies.Session id size status) = ⊤
 IsUpload _ = ⊥
 
--- a blob was stored, or an upload began
-abbrev pub IsPosting : Reply → Type 0
-IsPosting (replies.BlobMade digest) = ⊤
-IsPosting (replies.Session id size status) = status ≡ 202
-IsPosting _ = ⊥
+-- a blob was stored, or an upload began, as the status says
+abbrev pub IsPosting : Seen → Reply → Type 0
+IsPosting seen (replies.BlobMade digest) = seen.status ≡ 201
+IsPosting seen (replies.Session id size status) = seen.status ≢ 201
+IsPosting seen _ = ⊥
 
--- a refusal with this code, its status and its kind of detail
-abbrev pub IsRefusedAs : Code → Reply → Type 0
-IsRefusedAs code (replies.Refused status other detail) = (other ≡ code) × (status ≡ status_of code) × HasDetail code detail
-IsRefusedAs code _ = ⊥
+-- the kind of a call's success, of which the status and the page are read
+abbrev pub IsKindOf : List ℕ → Call → Seen → Reply → Type 0
+IsKindOf name (calls.Post mount digest body) seen reply = IsPosting seen reply
+IsKindOf name (calls.Patch id range body) seen reply = IsUpload reply
+IsKindOf name (calls.Finish id range digest body) seen reply = IsBlobMade reply
+IsKindOf name (calls.UploadState id) seen reply = IsUpload reply
+IsKindOf name (calls.Tags n last) seen reply = IsPageFrom name seen reply
+IsKindOf name call seen reply = IsSuccessOf call reply
 
--- a refusal with one of these codes, its status and its kind of detail
-abbrev pub IsRefusedAmong : List Code → Reply → Type 0
-IsRefusedAmong among (replies.Refused status other detail) = IsAmong among other × (status ≡ status_of other) × HasDetail other detail
-IsRefusedAmong among _ = ⊥
+-- a reply of this kind, with the values that are seen
+abbrev pub IsReadAs : (Reply → Type 0) → Seen → Reply → Type 0
+IsReadAs Kind seen reply = Kind reply × IsReadFrom seen reply
+
+-- the success of a call on the repository of the name that is seen
+abbrev pub IsSuccessFrom : List ℕ → Call → Seen → Reply → Type 0
+IsSuccessFrom name call seen reply = IsReadAs (IsKindOf name call seen) seen reply

@@ -1,8 +1,5 @@
 //! Replies held against bytes.
 ghost use Rattle.std.specs.Prelude.{IfOk, IfSome, IsSome};
-ghost use Rattle.zot_model.specs.Calls.{is_head};
-ghost use Rattle.zot_model.specs.declared.reply.Reply.{Reply};
-ghost use Rattle.zot_spell.specs.Alike.{AreAlike};
 ghost use Rattle.zot_reply.specs.Reading.{Spells};
 
 use std::alloc::{AllocError, Global};
@@ -17,7 +14,7 @@ pub fn confirm(
     bytes: &[u8],
 ) -> Result<Option<Reply>, AllocError>
     ensures sound { IfOk result (λ found. IfSome found (λ r. Spells request.now r bytes.now)) }
-    ensures whole { IfOk result (λ found. (other : Reply) → AreAlike (is_head request.now.call) other reply → Spells request.now other bytes.now → IsSome found) }
+    ensures whole { IfOk result (λ found. Spells request.now reply bytes.now → IsSome found) }
 {
     if !fits(request, &reply) {
         return Ok(None);

@@ -1,5 +1,5 @@
 //! What stands at a place of some bytes. Where it doesn't stand there, something else is given: a reply that is made of it isn't confirmed.
-ghost use Rattle.std.specs.Prelude.{◌≡◌, ◌++◌, ◌∷◌, ℕ, List, length};
+ghost use Rattle.std.specs.Prelude.{◌≡◌, ◌++◌, ◌∷◌, ℕ, List, length, IsUtf8};
 ghost use Rattle.std.specs.Fmt.{decimal};
 ghost use Rattle.zot_digest.specs.Digest.{IsDigest, digest_text};
 ghost use Rattle.zot_model.specs.Values.{IsWord};
@@ -21,6 +21,13 @@ pub fn skip(bytes: &[u8], count: usize) -> &[u8]
     } else {
         bytes.split_at(count).1
     }
+}
+
+/// What stands after so many bytes, a text and so many more. Takes no memory.
+pub fn skip_text<'a>(bytes: &'a [u8], before: usize, text: &str, after: usize) -> &'a [u8]
+    ensures { (front back rest : List ℕ) → length front ≡ before → length back ≡ after → bytes.now ≡ front ++ (text.now ++ (back ++ rest)) → result.now ≡ rest }
+{
+    skip(skip(skip(bytes, before), text.len()), after)
 }
 
 /// What stands before the first byte that is the end. Takes no memory.
@@ -67,8 +74,15 @@ pub fn digest_of(text: &[u8]) -> Digest
 pub fn number_of(text: &[u8]) -> u64
     ensures { (n : ℕ) → IsWord n → text.now ≡ decimal n → n ≡ result }
 {
-    match str::from_utf8(text) {
-        Ok(text) => text.parse::<u64>().unwrap_or(0),
-        Err(_) => 0,
+    text_of(text).parse::<u64>().unwrap_or(0)
+}
+
+/// The text that these bytes are. Takes no memory.
+pub fn text_of(bytes: &[u8]) -> &str
+    ensures { IsUtf8 bytes.now → result.now ≡ bytes.now }
+{
+    match str::from_utf8(bytes) {
+        Ok(text) => text,
+        Err(_) => "",
     }
 }

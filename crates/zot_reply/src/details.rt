@@ -1,14 +1,9 @@
 //! What refusals say beside their codes.
-ghost use Rattle.std.specs.Prelude.{ℕ, Bool, List};
 ghost use Rattle.zot_model.specs.Codes.{HasDetail};
-ghost use Rattle.zot_model.specs.Refusals.{refusal_with};
-ghost use Rattle.zot_model.specs.Values.{IsRealDetail};
-ghost use Rattle.zot_model.specs.declared.detail.Detail.{Detail};
-ghost use Rattle.zot_spell.specs.Alike.{AreDetailsAlike};
-ghost use Rattle.zot_reply.specs.Details.{FindsDigest};
-ghost use Rattle.zot_reply.specs.Reading.{IsSeen, seen_of};
+ghost use Rattle.zot_reply.specs.Details.{FindsDigest, IsDetailFrom};
+ghost use Rattle.zot_reply.specs.Reading.{seen_of};
 
-use crate::cutting::{first_digest, skip};
+use crate::cutting::{first_digest, skip, skip_text};
 use crate::values::{upload_id, upload_length};
 use zot_digest::Digest;
 use zot_model::{Code, Detail, Methods};
@@ -28,8 +23,8 @@ const FOUND_AT: usize = 87;
 
 /// What a refusal with this code says beside it. To HEAD no body is shown, so there each detail of the code's kind is spelled alike.
 pub fn detail_of(code: Code, split: &SplitReply) -> Detail
-    ensures { (name : List ℕ) (head : Bool) (detail : Detail) → IsRealDetail detail → HasDetail code detail
-        → IsSeen name head (refusal_with code detail) (seen_of split.now) → AreDetailsAlike head detail result }
+    ensures kind { HasDetail code result }
+    ensures read { IsDetailFrom code (seen_of split.now) result }
 {
     match code {
         Code::BlobUploadInvalid => Detail::Session(upload_id(split), upload_length(split)),
@@ -49,8 +44,6 @@ pub fn detail_of(code: Code, split: &SplitReply) -> Detail
 fn digest_at(code: Code, body: &[u8], place: usize) -> Digest
     ensures { FindsDigest code body.now place result }
 {
-    let from_code = skip(body, BEFORE_CODE);
-    let after_code = skip(from_code, code.text().len());
-    let detail = skip(after_code, BEFORE_DETAIL);
+    let detail = skip_text(body, BEFORE_CODE, code.text(), BEFORE_DETAIL);
     first_digest(skip(detail, place))
 }

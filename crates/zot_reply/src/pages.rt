@@ -8,9 +8,8 @@ ghost use Rattle.zot_reply.specs.Pages.{link_rest, tags_text};
 ghost use Rattle.zot_spell.specs.Bodies.{page_body};
 ghost use Rattle.zot_spell.specs.Fields.{link_text};
 
-use crate::cutting::{after_first, number_of, skip, up_to};
+use crate::cutting::{after_first, number_of, skip, skip_text, text_of, up_to};
 use std::alloc::{AllocError, Global};
-use std::str;
 use zot_names::{NameError, Tag, TagList};
 use zot_spell::cut;
 
@@ -45,18 +44,14 @@ pub fn link_tag(alloc: Global, name: &str, link: &[u8]) -> Result<Option<Tag>, A
 fn from_number<'a>(name: &str, link: &'a [u8]) -> &'a [u8]
     ensures { (n : ℕ) (tag : List ℕ) → link.now ≡ link_text name.now n tag → result.now ≡ link_rest n tag }
 {
-    let from_name = skip(link, BEFORE_NAME);
-    skip(skip(from_name, name.len()), BEFORE_NUMBER)
+    skip_text(link, BEFORE_NAME, name, BEFORE_NUMBER)
 }
 
 // The tag that these bytes are.
 fn tag_of(alloc: Global, text: &[u8]) -> Result<Option<Tag>, AllocError>
     ensures { IfOk result (λ found. (tag : List ℕ) → IsTag tag → text.now ≡ tag → found ≡ Some tag) }
 {
-    let Ok(text) = str::from_utf8(text) else {
-        return Ok(None);
-    };
-    match Tag::read(alloc, text) {
+    match Tag::read(alloc, text_of(text)) {
         Ok(tag) => Ok(Some(tag)),
         Err(NameError::Bad) => Ok(None),
         Err(NameError::NoMemory) => Err(AllocError),
@@ -68,8 +63,7 @@ pub fn tags_of(alloc: Global, name: &str, body: &[u8]) -> Result<TagList, AllocE
     requires { AllPass is_name_byte name.now }
     ensures { IfOk result (λ found. (tags : List (List ℕ)) → AllByRecursion IsTag tags → body.now ≡ page_body name.now tags → tags ≡ found) }
 {
-    let from_name = skip(body, BEFORE_PAGE_NAME);
-    let tags = tags_in(alloc, skip(skip(from_name, name.len()), BEFORE_TAGS))?;
+    let tags = tags_in(alloc, skip_text(body, BEFORE_PAGE_NAME, name, BEFORE_TAGS))?;
     Ok(TagList::new(tags))
 }
 

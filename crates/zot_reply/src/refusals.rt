@@ -1,7 +1,11 @@
 //! Refusals that bytes may be.
 ghost use Rattle.std.specs.Prelude.{IfOk, IfSome, IsSome};
-ghost use Rattle.zot_model.specs.declared.reply.Reply.{Reply};
-ghost use Rattle.zot_reply.specs.Reading.{IsRefusedAmong, IsRefusedAs, IsWanted, Spells, seen_of};
+ghost use Rattle.zot_model.specs.Codes.{HasDetail};
+ghost use Rattle.zot_model.specs.Fits.{IsAmong};
+ghost use Rattle.zot_model.specs.Refusals.{refusal_with};
+ghost use Rattle.zot_model.specs.declared.code.Code.{Code};
+ghost use Rattle.zot_model.specs.declared.detail.Detail.{Detail};
+ghost use Rattle.zot_reply.specs.Reading.{IsWanted, Spells, seen_of};
 
 use crate::confirming::confirm;
 use crate::details::detail_of;
@@ -46,7 +50,8 @@ pub fn read_refusals(
     split: &SplitReply,
 ) -> Result<Option<Reply>, AllocError>
     ensures sound { IfOk result (λ found. IfSome found (λ reply. Spells request.now reply bytes.now)) }
-    ensures whole { IfOk result (λ found. (reply : Reply) → IsRefusedAmong codes.now reply → IsWanted request.now reply bytes.now (seen_of split.now) → IsSome found) }
+    ensures whole { IfOk result (λ found. (code : Code) (detail : Detail) → IsAmong codes.now code → HasDetail code detail
+        → IsWanted request.now (refusal_with code detail) bytes.now (seen_of split.now) → IsSome found) }
 {
     for code in codes {
         if let Some(reply) = read_refusal(alloc, request, *code, bytes, split)? {
@@ -65,7 +70,8 @@ fn read_refusal(
     split: &SplitReply,
 ) -> Result<Option<Reply>, AllocError>
     ensures sound { IfOk result (λ found. IfSome found (λ reply. Spells request.now reply bytes.now)) }
-    ensures whole { IfOk result (λ found. (reply : Reply) → IsRefusedAs code reply → IsWanted request.now reply bytes.now (seen_of split.now) → IsSome found) }
+    ensures whole { IfOk result (λ found. (detail : Detail) → HasDetail code detail
+        → IsWanted request.now (refusal_with code detail) bytes.now (seen_of split.now) → IsSome found) }
 {
     let status = code.status();
     if status != split.status {

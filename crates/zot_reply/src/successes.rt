@@ -1,10 +1,8 @@
 //! The replies with which calls succeed.
-ghost use Rattle.std.specs.Prelude.{◌≡◌, ℕ, Bool, List, false, true, IfOk};
-ghost use Rattle.std.specs.List.{AllPass};
-ghost use Rattle.zot_model.specs.Calls.{is_head};
-ghost use Rattle.zot_model.specs.Fits.{IsBlob, IsBlobHead, IsBlobMade, IsManifest, IsManifestHead, IsManifestMade, IsPage, IsReferrers, IsSuccessOf};
-ghost use Rattle.zot_names.specs.Name.{is_name_byte};
-ghost use Rattle.zot_reply.specs.Reading.{Covers, IsPosting, IsUpload, seen_of};
+ghost use Rattle.std.specs.Prelude.{◌≡◌, Some, IfOk};
+ghost use Rattle.zot_model.specs.Fits.{IsBlob, IsBlobHead, IsBlobMade, IsManifest, IsManifestHead, IsManifestMade, IsReferrers};
+ghost use Rattle.zot_reply.specs.Reading.{IsPageFrom, IsPosting, IsReadAs, IsSuccessFrom, IsUpload, seen_of};
+ghost use Rattle.zot_spell.specs.Spelling.{name_in};
 
 use crate::pages::{link_number, link_tag, tags_of};
 use crate::values::{
@@ -12,20 +10,18 @@ use crate::values::{
 };
 use std::alloc::{AllocError, Global};
 use zot_digest::Bytes;
-use zot_model::{Call, Reply};
-use zot_spell::{FieldName, SplitReply, value_in};
+use zot_model::{Call, Reply, Request};
+use zot_spell::{FieldName, SplitReply, name_of, value_in};
 
-/// The reply with which a call on the repository of this name succeeds, where the bytes that were split are such a reply; else another one.
+/// The reply with which a request succeeds, where the bytes that were split are such a reply; else another one.
 pub fn read_success(
     alloc: Global,
-    name: &str,
-    call: &Call,
+    request: &Request,
     split: &SplitReply,
 ) -> Result<Reply, AllocError>
-    requires { AllPass is_name_byte name.now }
-    ensures { IfOk result (Covers (IsSuccessOf call.now) (is_head call.now) name.now (seen_of split.now)) }
+    ensures { IfOk result (IsSuccessFrom (name_in (Some request.now)) request.now.call (seen_of split.now)) }
 {
-    match call {
+    match &request.call {
         Call::Base => Ok(Reply::Base),
         Call::GetBlob(_) => read_blob(alloc, split),
         Call::HeadBlob(_) => Ok(read_blob_head(split)),
@@ -37,14 +33,14 @@ pub fn read_success(
         Call::PutManifest { .. } => Ok(read_manifest_made(split)),
         Call::GetManifest(_) => read_manifest(alloc, split),
         Call::HeadManifest(_) => Ok(read_manifest_head(split)),
-        Call::Tags { .. } => read_page(alloc, name, split),
+        Call::Tags { .. } => read_page(alloc, request, split),
         Call::Referrers { .. } => read_referrers(alloc, split),
     }
 }
 
 // A blob.
 fn read_blob(alloc: Global, split: &SplitReply) -> Result<Reply, AllocError>
-    ensures { (name : List ℕ) → IfOk result (Covers IsBlob false name (seen_of split.now)) }
+    ensures { IfOk result (IsReadAs IsBlob (seen_of split.now)) }
 {
     let digest = content_digest(split);
     let bytes = copied(alloc, split.body)?;
@@ -53,7 +49,7 @@ fn read_blob(alloc: Global, split: &SplitReply) -> Result<Reply, AllocError>
 
 // A blob's size.
 fn read_blob_head(split: &SplitReply) -> Reply
-    ensures { (name : List ℕ) → Covers IsBlobHead true name (seen_of split.now) result }
+    ensures { IsReadAs IsBlobHead (seen_of split.now) result }
 {
     let digest = content_digest(split);
     let size = content_length(split);
@@ -62,7 +58,7 @@ fn read_blob_head(split: &SplitReply) -> Reply
 
 // A blob that was stored.
 fn read_blob_made(split: &SplitReply) -> Reply
-    ensures { (name : List ℕ) → Covers IsBlobMade false name (seen_of split.now) result }
+    ensures { IsReadAs IsBlobMade (seen_of split.now) result }
 {
     let digest = content_digest(split);
     Reply::BlobMade { digest }
@@ -70,7 +66,7 @@ fn read_blob_made(split: &SplitReply) -> Reply
 
 // An upload.
 fn read_upload(split: &SplitReply) -> Reply
-    ensures { (name : List ℕ) → Covers IsUpload false name (seen_of split.now) result }
+    ensures { IsReadAs IsUpload (seen_of split.now) result }
 {
     let id = upload_id(split);
     let length = upload_length(split);
@@ -80,7 +76,7 @@ fn read_upload(split: &SplitReply) -> Reply
 
 // A blob that was stored, or an upload that began.
 fn read_post(split: &SplitReply) -> Reply
-    ensures { (name : List ℕ) → Covers IsPosting false name (seen_of split.now) result }
+    ensures { IsReadAs (IsPosting (seen_of split.now)) (seen_of split.now) result }
 {
     if split.status == 201 {
         read_blob_made(split)
@@ -91,7 +87,7 @@ fn read_post(split: &SplitReply) -> Reply
 
 // A manifest that was stored.
 fn read_manifest_made(split: &SplitReply) -> Reply
-    ensures { (name : List ℕ) → Covers IsManifestMade false name (seen_of split.now) result }
+    ensures { IsReadAs IsManifestMade (seen_of split.now) result }
 {
     let digest = content_digest(split);
     let subject = subject_digest(split);
@@ -100,7 +96,7 @@ fn read_manifest_made(split: &SplitReply) -> Reply
 
 // A manifest.
 fn read_manifest(alloc: Global, split: &SplitReply) -> Result<Reply, AllocError>
-    ensures { (name : List ℕ) → IfOk result (Covers IsManifest false name (seen_of split.now)) }
+    ensures { IfOk result (IsReadAs IsManifest (seen_of split.now)) }
 {
     let digest = content_digest(split);
     let media = content_media(split);
@@ -114,7 +110,7 @@ fn read_manifest(alloc: Global, split: &SplitReply) -> Result<Reply, AllocError>
 
 // A manifest's media and size.
 fn read_manifest_head(split: &SplitReply) -> Reply
-    ensures { (name : List ℕ) → Covers IsManifestHead true name (seen_of split.now) result }
+    ensures { IsReadAs IsManifestHead (seen_of split.now) result }
 {
     let digest = content_digest(split);
     let media = content_media(split);
@@ -127,10 +123,10 @@ fn read_manifest_head(split: &SplitReply) -> Reply
 }
 
 // A page of tags. One after which none follows has no number.
-fn read_page(alloc: Global, name: &str, split: &SplitReply) -> Result<Reply, AllocError>
-    requires { AllPass is_name_byte name.now }
-    ensures { IfOk result (Covers IsPage false name.now (seen_of split.now)) }
+fn read_page(alloc: Global, request: &Request, split: &SplitReply) -> Result<Reply, AllocError>
+    ensures { IfOk result (IsReadAs (IsPageFrom (name_in (Some request.now)) (seen_of split.now)) (seen_of split.now)) }
 {
+    let name = name_of(Some(request));
     let tags = tags_of(alloc, name, split.body)?;
     match value_in(FieldName::Link, split.fields.as_slice()) {
         Some(link) => {
@@ -147,11 +143,11 @@ fn read_page(alloc: Global, name: &str, split: &SplitReply) -> Result<Reply, All
 
 // An index of referrers.
 fn read_referrers(alloc: Global, split: &SplitReply) -> Result<Reply, AllocError>
-    ensures { (name : List ℕ) → IfOk result (Covers IsReferrers false name (seen_of split.now)) }
+    ensures { IfOk result (IsReadAs IsReferrers (seen_of split.now)) }
 {
     let text = copied(alloc, split.body)?;
     let fields = split.fields.as_slice();
-    let filtered = value_in(FieldName::FiltersApplied, fields).is_some();
+    let filtered = matches!(value_in(FieldName::FiltersApplied, fields), Some(_));
     Ok(Reply::Referrers { text, filtered })
 }
 

@@ -1,7 +1,7 @@
 use Rattle.std.proofs.Common.{◌++◌, ◌∷◌, arith}
 use Rattle.std.specs.Fmt.{decimal}
 use Rattle.std.specs.Prelude.{codes}
-use Rattle.zot_reply.proofs.ReadingLemmas.{decimal_free}
+use Rattle.zot_reply.proofs.TextLemmas.{decimal_free}
 use Rattle.zot_reply.proofs.pages.link_number.Goals as goal
 
 pub returns : goal.returns

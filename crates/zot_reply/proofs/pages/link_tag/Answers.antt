@@ -1,8 +1,8 @@
 use Rattle.std.proofs.Common.{◌++◌, ◌∷◌, refl, arith}
 use Rattle.std.specs.Fmt.{decimal}
 use Rattle.std.specs.Prelude.{codes}
-use Rattle.zot_reply.proofs.PageLemmas.{linked_tag, tag_free}
-use Rattle.zot_reply.proofs.ReadingLemmas.{decimal_free}
+use Rattle.zot_reply.proofs.PageLemmas.{linked_tag}
+use Rattle.zot_reply.proofs.TextLemmas.{decimal_free, tag_free}
 use Rattle.zot_reply.proofs.pages.link_tag.Goals as goal
 
 pub returns : goal.returns

@@ -2,7 +2,8 @@ use Rattle.std.proofs.Common.{◌++◌, ◌∷◌, refl}
 use Rattle.serde_json.specs.Written.{comma_if}
 use Rattle.zot_reply.specs.Pages.{tags_text}
 use Rattle.std.proofs.Common.{true}
-use Rattle.zot_reply.proofs.PageLemmas.{comma_free, tag_free}
+use Rattle.zot_reply.proofs.PageLemmas.{comma_free}
+use Rattle.zot_reply.proofs.TextLemmas.{tag_free}
 use Rattle.zot_reply.proofs.pages.next_tag.Goals as goal
 
 pub returns-in-Some-2-clause-first : goal.returns-in-Some-2-clause-first
