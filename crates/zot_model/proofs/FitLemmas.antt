@@ -55,7 +55,7 @@ common (calls.GetManifest reference) code named h = inr (inr (inr (inr (inr (inr
 common (calls.HeadManifest reference) code named h = inr (inr (inr (inr (inr (inr h)))))
 common (calls.DeleteManifest reference) code named h = inr h
 common (calls.Tags n last) code named h = inr h
-common (calls.Referrers digest filter) code named h = inr h
+common (calls.Referrers digest filter) code named h = h
 
 says_nothing : (code : Code) → IsAmong common_codes code → HasDetail code details.None
 says_nothing code (inl h) = subst (λ c. HasDetail c details.None) (sym h) tt
@@ -177,7 +177,7 @@ plain_fits moment repo (calls.HeadManifest reference) named = head_manifest_fits
 plain_fits moment repo (calls.DeleteManifest (by.Tag tag)) named = chosen (calls.DeleteManifest (by.Tag tag)) (map.contains_key repo.tags tag) _ _ (inl tt) (inr (inl refl, refl, tt))
 plain_fits moment repo (calls.DeleteManifest (by.Digest digest)) named = chosen (calls.DeleteManifest (by.Digest digest)) (map.contains_key repo.manifests digest) _ _ (inl tt) (inr (inl refl, refl, tt))
 plain_fits moment repo (calls.Tags n last) named = chosen (calls.Tags n last) repo.known _ _ (inl tt) (inr (inl refl, refl, tt))
-plain_fits moment repo (calls.Referrers digest filter) named = inr (inl refl, refl, tt)
+plain_fits moment repo (calls.Referrers digest filter) named = inl tt
 
 -- each answer to a call on a repository fits it
 pub answer_fits : (moment : ℕ) (old new : RowState) (name : List ℕ) (call : Call) (reply : Reply) → MayAnswer moment old name call reply new → call ≢ calls.Base → FitsCall call reply

@@ -111,7 +111,6 @@ row_of kinds.UpstreamTooLarge = of_requests (codes "UPSTREAM_TOO_LARGE") 502 Not
 row_of kinds.PeerFault = of_requests (codes "PEER_FAULT") 502 Nothing
 row_of kinds.NoMemory = of_both (codes "NO_MEMORY") 503
 row_of kinds.HopRefused = of_requests (codes "HOP_REFUSED") 508 Nothing
-row_of kinds.NotBuilt = of_requests (codes "NOT_BUILT") 501 Nothing
 
 -- the text of a code
 unfoldable pub code_text : Code → List ℕ

@@ -3,7 +3,7 @@ use Rattle.std.specs.Prelude.{◌≡◌, ◌≢◌, ℕ, List, [], ◌∷◌, Op
 use Rattle.zot_model.specs.declared.call.Call.{Call}
 use Rattle.zot_model.specs.declared.call.Call.TheVariants as calls
 use Rattle.zot_model.specs.declared.code.Code.{Code}
-use Rattle.zot_model.specs.declared.code.Code.TheVariants.{BlobUnknown, BlobUploadInvalid, BlobUploadUnknown, DigestInvalid, HopRefused, ManifestBlobUnknown, ManifestInvalid, ManifestUnknown, NameUnknown, NoMemory, NotBuilt, PeerFault, SizeInvalid, StorageFault, TooManyRequests, Unsupported, UpstreamFault, UpstreamIncomplete, UpstreamInvalid, UpstreamMismatch, UpstreamTooLarge}
+use Rattle.zot_model.specs.declared.code.Code.TheVariants.{BlobUnknown, BlobUploadInvalid, BlobUploadUnknown, DigestInvalid, HopRefused, ManifestBlobUnknown, ManifestInvalid, ManifestUnknown, NameUnknown, NoMemory, PeerFault, SizeInvalid, StorageFault, TooManyRequests, Unsupported, UpstreamFault, UpstreamIncomplete, UpstreamInvalid, UpstreamMismatch, UpstreamTooLarge}
 use Rattle.zot_model.specs.declared.mount.Mount.{Mount}
 use Rattle.zot_model.specs.declared.reply.Reply.{Reply}
 use Rattle.zot_model.specs.declared.reply.Reply.TheVariants as replies
@@ -21,10 +21,6 @@ pub use Rattle.zot_model.specs.Codes.{HasDetail, IsDeclinedAs, SaysDiffer, SaysM
 -- the codes with which any call on a repository may be refused, whatever the repository has
 abbrev pub common_codes : List Code
 common_codes = StorageFault ∷ NoMemory ∷ PeerFault ∷ HopRefused ∷ []
-
--- the codes of a call that isn't built
-abbrev pub unbuilt_codes : List Code
-unbuilt_codes = NotBuilt ∷ common_codes
 
 -- the codes with which a wanted manifest may be refused
 abbrev pub manifest_codes : List Code
@@ -61,7 +57,7 @@ codes_of (calls.GetManifest reference) = manifest_codes
 codes_of (calls.HeadManifest reference) = manifest_codes
 codes_of (calls.DeleteManifest reference) = ManifestUnknown ∷ common_codes
 codes_of (calls.Tags n last) = NameUnknown ∷ common_codes
-codes_of (calls.Referrers digest filter) = unbuilt_codes
+codes_of (calls.Referrers digest filter) = common_codes
 
 -- the call may be refused so
 abbrev pub IsRefusalOf : Call → Reply → Type 0

@@ -12,6 +12,7 @@ pub mod Pieces
 pub mod Plain
 pub mod PlainBlobs
 pub mod PlainManifests
+pub mod PlainReferrers
 pub mod PlainUploads
 pub mod Refusals
 pub mod State

@@ -4,15 +4,17 @@ use Rattle.sha2.specs.Sha256.{sha256}
 use Rattle.zot_model.specs.declared.call.Call.{Call}
 use Rattle.zot_model.specs.declared.call.Call.TheVariants.{Base, DeleteBlob, DeleteManifest, Finish, GetBlob, GetManifest, HeadBlob, HeadManifest, Patch, Post, PutManifest, Referrers, Tags, UploadState}
 use Rattle.zot_model.specs.declared.reply.Reply.{Reply}
+use Rattle.zot_model.specs.declared.reply.Reply.TheVariants as replies
 use Rattle.zot_model.specs.Among.{IsAmong}
 use Rattle.zot_model.specs.Outcomes.{Outcome, stays, with_blob}
 use Rattle.zot_model.specs.PlainBlobs.{plain_delete, plain_get, plain_head, plain_post}
 use Rattle.zot_model.specs.PlainManifests.{plain_delete_manifest, plain_get_manifest, plain_head_manifest, plain_put, plain_tags}
+use Rattle.zot_model.specs.PlainReferrers.{plain_referrers}
 use Rattle.zot_model.specs.PlainUploads.{at_upload, plain_begin, plain_finish, plain_patch, plain_state}
-use Rattle.zot_model.specs.Refusals.{no_memory, not_built}
+use Rattle.zot_model.specs.Refusals.{no_memory}
 use Rattle.zot_model.specs.State.{Becomes, RepoState, RowState, made_known, repo_at}
 
--- the first case that fits a request, at this moment; no blob is taken over from another repository yet, and referrers aren't listed yet. The base route is asked of no repository
+-- the first case that fits a request, at this moment; no blob is taken over from another repository yet. The base route is asked of no repository
 unfoldable pub plain : ℕ → RepoState → Call → Outcome
 plain moment repo (GetBlob digest) = plain_get repo digest
 plain moment repo (HeadBlob digest) = plain_head repo digest
@@ -27,8 +29,8 @@ plain moment repo (GetManifest reference) = plain_get_manifest moment repo refer
 plain moment repo (HeadManifest reference) = plain_head_manifest repo reference
 plain moment repo (DeleteManifest reference) = plain_delete_manifest repo reference
 plain moment repo (Tags n last) = plain_tags repo n last
-plain moment repo (Referrers digest filter) = stays repo not_built
-plain moment repo Base = stays repo not_built
+plain moment repo (Referrers digest filter) = plain_referrers repo digest filter
+plain moment repo Base = stays repo replies.Base
 
 -- ---- the ways in which a request may be answered
 

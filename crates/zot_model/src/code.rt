@@ -53,8 +53,6 @@ pub enum Code {
     NoMemory,
     /// A request was handed on to a member that doesn't own the repository.
     HopRefused,
-    /// A request that isn't built yet.
-    NotBuilt,
 }
 
 impl Code {

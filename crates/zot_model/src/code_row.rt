@@ -53,7 +53,6 @@ impl CodeRow {
             Code::PeerFault => ("PEER_FAULT", "peer fault", 502),
             Code::NoMemory => ("NO_MEMORY", "no memory", 503),
             Code::HopRefused => ("HOP_REFUSED", "hop refused", 508),
-            Code::NotBuilt => ("NOT_BUILT", "not built", 501),
         };
         CodeRow {
             text,

@@ -1,7 +1,7 @@
 //! Which replies a request may have.
 ghost use Rattle.std.specs.Prelude.{◌≡◌, ◌↔◌, IsSome, IsSomeAnd, IsTrue, Option, Some};
 ghost use Rattle.zot_model.specs.Codes.{HasDetail};
-ghost use Rattle.zot_model.specs.Fits.{Fits, FitsCall, IsAmong, IsBase, IsBegun, IsBlob, IsBlobHead, IsBlobMade, IsDeleted, IsManifest, IsManifestHead, IsManifestMade, IsOfUpload, IsPage, IsPosted, IsReferrers, IsRefusalOf, IsSession, IsSuccessOf, codes_of, common_codes, manifest_codes, unbuilt_codes, upload_codes};
+ghost use Rattle.zot_model.specs.Fits.{Fits, FitsCall, IsAmong, IsBase, IsBegun, IsBlob, IsBlobHead, IsBlobMade, IsDeleted, IsManifest, IsManifestHead, IsManifestMade, IsOfUpload, IsPage, IsPosted, IsReferrers, IsRefusalOf, IsSession, IsSuccessOf, codes_of, common_codes, manifest_codes, upload_codes};
 
 use crate::call::Call;
 use crate::code::Code;
@@ -195,7 +195,7 @@ fn may_have(call: &Call, code: Code) -> bool
         Call::GetManifest(_) | Call::HeadManifest(_) => is_of_manifest(code),
         Call::DeleteManifest(_) => code == Code::ManifestUnknown || is_common(code),
         Call::Tags { .. } => code == Code::NameUnknown || is_common(code),
-        Call::Referrers { .. } => is_unbuilt(code),
+        Call::Referrers { .. } => is_common(code),
     }
 }
 
@@ -220,13 +220,6 @@ fn is_of_manifest(code: Code) -> bool
         || code == Code::UpstreamInvalid
         || code == Code::UpstreamTooLarge
         || is_common(code)
-}
-
-// Whether it is a code of a call that isn't built.
-fn is_unbuilt(code: Code) -> bool
-    ensures { IsTrue result ↔ IsAmong unbuilt_codes code }
-{
-    code == Code::NotBuilt || is_common(code)
 }
 
 // Whether it is a code of any call on a repository.

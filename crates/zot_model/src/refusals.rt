@@ -1,6 +1,6 @@
 //! The refusals that this registry answers.
 ghost use Rattle.std.specs.Prelude.{◌≡◌};
-ghost use Rattle.zot_model.specs.Refusals.{declined, no_memory, not_allowed, not_built, range_invalid, refusal, refusal_with, unsupported_path, unsupported_query, upload_invalid};
+ghost use Rattle.zot_model.specs.Refusals.{declined, no_memory, not_allowed, range_invalid, refusal, refusal_with, unsupported_path, unsupported_query, upload_invalid};
 ghost use Rattle.zot_model.specs.declared.code.Code.TheVariants as codes;
 ghost use Rattle.zot_model.specs.declared.detail.Detail.TheVariants as details;
 
@@ -89,13 +89,6 @@ impl Reply {
         ensures { result ≡ no_memory }
     {
         refusal(Code::NoMemory)
-    }
-
-    /// The request isn't built yet.
-    pub fn not_built() -> Self
-        ensures { result ≡ not_built }
-    {
-        refusal(Code::NotBuilt)
     }
 }
 
