@@ -1,7 +1,6 @@
 -- How the parts of a message that were received come together.
-use Rattle.std.specs.declared.alloc.Global.{Global}
-use Rattle.std.proofs.Common.{◌≡◌, ℕ, ◌+◌, ◌-◌, ◌≤◌, Bool, true, false, List, [], ◌++◌, length, take, drop, Option, refl, sym, ap, ◌∙◌, subst, arith}
-use Rattle.std.specs.Prelude.{if◌then◌else◌, Vec, Ok}
+use Rattle.std.proofs.Common.{◌≡◌, ℕ, ◌+◌, ◌-◌, ◌≤◌, false, List, [], ◌++◌, length, take, drop, Option, refl, sym, ap, ◌∙◌, subst, arith}
+use Rattle.std.specs.Prelude.{Ok}
 use Rattle.std.proofs.lemmas.List.{append_assoc, append-nil, length-append, take-append-drop}
 use Rattle.zot_head.specs.declared.head.Head.{Head}
 use Rattle.zot_head.specs.Front.{Front, IsFront}
@@ -20,8 +19,8 @@ use Rattle.zot_session.specs.declared.heading.Heading.TheVariants as headings
 use Rattle.zot_session.specs.declared.send_error.SendError.TheVariants as errors
 use Rattle.zot_session.specs.Cuts.{budget, end_at, end_of}
 use Rattle.zot_session.specs.Ending.{EndsAfter, cut_short, owed, unread, unsent}
-use Rattle.zot_session.specs.Messages.{IsPartial, IsRead, IsRefused, Owes, continue_of, continue_text, is_blank, refused_as}
-use Rattle.zot_session.specs.Receiving.{BodyCame, BodyCut, BodyIs, BodyRefused, Came, HeadCame, HeadCut, HeadDeclined, HeadIs, HeadRefused, Heads, IsCut, IsHeading, MessageCame, MessageRefused, ReceiveEnds, Took, no_memory, no_piece}
+use Rattle.zot_session.specs.Messages.{IsPartial, IsRead, IsRefused, Owes, continue_of, is_blank, refused_as}
+use Rattle.zot_session.specs.Receiving.{BodyCame, BodyCut, BodyIs, BodyRefused, Came, HeadCame, HeadCut, HeadDeclined, HeadIs, HeadRefused, Heads, IsCut, MessageCame, MessageRefused, ReceiveEnds, Took, no_memory, no_piece}
 use Rattle.zot_session.specs.Sending.{WritesPart}
 use Rattle.zot_session.specs.Waiting.{CutShort, HoldsMessage, KeepsRoom, TakesPiece, Waiting}
 use Rattle.zot_session.proofs.HeadingLemmas.{heading_ends, heading_front, heading_owes, large_owes, large_refused, not_blank}

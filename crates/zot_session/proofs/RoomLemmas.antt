@@ -1,5 +1,5 @@
 -- What an inbox holds, piece by piece.
-use Rattle.std.proofs.Common.{◌≡◌, ℕ, ◌+◌, ◌≤◌, max, List, [], ◌++◌, length, drop, Option, sym, ap, subst, arith}
+use Rattle.std.proofs.Common.{◌≡◌, ℕ, ◌≤◌, List, [], ◌++◌, length, drop, Option, ap, subst, arith}
 use Rattle.std.proofs.lemmas.List.{length-append, length-drop}
 use Rattle.zot_head.specs.Limits.{head_limit}
 use Rattle.zot_head.specs.Lines.{Ends, Goes, extent, head_end}

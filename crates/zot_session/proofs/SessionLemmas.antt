@@ -9,7 +9,7 @@ use Rattle.zot_outside.proofs.StreamLemmas.{Appends-append, Appends-nil, Takes-a
 use Rattle.zot_session.specs.declared.end.End.{End}
 use Rattle.zot_session.specs.declared.end.End.TheVariants as ends
 use Rattle.zot_session.specs.Cuts.{budget}
-use Rattle.zot_session.specs.Ending.{EndsAfter, EndsWith, after, unread, with_last}
+use Rattle.zot_session.specs.Ending.{EndsAfter, after, unread, with_last}
 use Rattle.zot_session.specs.Exchanges.{Conducts, Exchange, IsRouted, StayOpen, answered, closes, declined, message_of, output, spelled}
 use Rattle.zot_session.specs.Messages.{Messages}
 use Rattle.zot_session.specs.Receiving.{Took}
@@ -17,7 +17,7 @@ use Rattle.zot_session.specs.Session.{Served}
 use Rattle.zot_session.specs.Turn.{AnswersFront, GoesOn, Stops, TurnEnds, receiving, replying}
 use Rattle.zot_session.specs.Waiting.{Waiting}
 use Rattle.zot_session.proofs.MessageLemmas.{Messages-more, Messages-push, all_push, map-push, output-push, stands_size}
-use Rattle.std.proofs.Common.{inl, false}
+use Rattle.std.proofs.Common.{false}
 
 -- a connection so far: what was taken is the exchanges' messages and what waits, all their replies were written, and none of them closes the connection
 pub record SoFar {A : Type 0} (answers : A → Request → Reply → A → Type 0) (old now : A) (left_before left_now held_before held_now : Option (List ℕ)) (waits : Waiting) : Type 0 where

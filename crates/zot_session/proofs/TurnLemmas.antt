@@ -1,10 +1,8 @@
 -- What one turn of a connection does.
-use Rattle.std.proofs.Common.{◌≡◌, ℕ, ◌-◌, Bool, true, false, List, [], ◌++◌, length, Option, None, Some, refl, sym, ap, ◌∙◌, subst}
+use Rattle.std.proofs.Common.{◌≡◌, ℕ, true, false, List, [], ◌++◌, Option, None, Some, refl, sym, ap, ◌∙◌, subst}
 use Rattle.std.specs.Prelude.{IfNone, IfSome, Result, Ok, Err}
-use Rattle.std.proofs.lemmas.List.{append_assoc, append-nil}
+use Rattle.std.proofs.lemmas.List.{append-nil}
 use Rattle.zot_head.specs.declared.head.Head.{Head}
-use Rattle.zot_head.specs.Front.{Refusal}
-use Rattle.zot_head.specs.Front as fronts
 use Rattle.zot_model.specs.declared.reply.Reply.{Reply}
 use Rattle.zot_model.specs.declared.request.Request.{Request}
 use Rattle.zot_outside.specs.Streams.{Appends}
@@ -13,10 +11,10 @@ use Rattle.zot_session.specs.declared.end.End.{End}
 use Rattle.zot_session.specs.declared.end.End.TheVariants as ends
 use Rattle.zot_session.specs.declared.send_error.SendError.{SendError}
 use Rattle.zot_session.specs.declared.send_error.SendError.TheVariants as errors
-use Rattle.zot_session.specs.Ending.{EndsAfter, EndsRefused, EndsUnsent, Says, closed, closing_bytes, owed, refused, refused_there, unsent, unsent_last}
-use Rattle.zot_session.specs.Exchanges.{Exchange, message_of, reply_of, spelled}
-use Rattle.zot_session.specs.Messages.{Message, Owes, Stands, continue_of, refused_as, refusal_status}
-use Rattle.zot_session.specs.Receiving.{MessageCame, MessageRefused, ReceiveEnds, Took}
+use Rattle.zot_session.specs.Ending.{Says, closed, closing_bytes, owed, refused, refused_there, unsent, unsent_last}
+use Rattle.zot_session.specs.Exchanges.{message_of, reply_of, spelled}
+use Rattle.zot_session.specs.Messages.{Message, Stands, continue_of}
+use Rattle.zot_session.specs.Receiving.{MessageCame, MessageRefused, ReceiveEnds}
 use Rattle.zot_session.specs.Sending.{Sends, StopsWriting, WritesPart, end_unsent}
 use Rattle.zot_session.specs.Turn.{AnswersFront, Exchanged, GoesOn, RefusalEnds, Replied, Replies, Responds, Stops, Unreplied, receiving, replied_last, reply_status, reply_unsent, replying, stopped, unasked, unreplied_last, written}
 use Rattle.zot_session.specs.Waiting.{Waiting}

@@ -1,5 +1,5 @@
 -- How the next message of a connection is received, piece by piece: its head, and then its body.
-use Rattle.std.specs.Prelude.{◌≡◌, ⊤, ℕ, ◌+◌, ◌-◌, ◌≤◌, List, [], ◌++◌, length, Option, Some, None, Result, Ok, Err}
+use Rattle.std.specs.Prelude.{◌≡◌, ℕ, ◌+◌, ◌-◌, ◌≤◌, List, [], ◌++◌, length, Option, Some, None, Result, Ok, Err}
 use Rattle.zot_head.specs.declared.chunk_error.ChunkError.{ChunkError}
 use Rattle.zot_head.specs.declared.chunk_error.ChunkError.TheVariants as errors
 use Rattle.zot_head.specs.declared.framing.Framing.{Framing}
@@ -22,7 +22,7 @@ use Rattle.zot_session.specs.declared.receiving.Received.{Received}
 use Rattle.zot_session.specs.declared.receiving.Received.TheVariants as received
 use Rattle.zot_session.specs.Cuts.{HasCut, budget}
 use Rattle.zot_session.specs.Ending.{EndsAfter}
-use Rattle.zot_session.specs.Messages.{IsPartial, IsRefused, Message, Owes, Stands, continue_of, refused_as}
+use Rattle.zot_session.specs.Messages.{IsPartial, IsRefused, Owes, Stands, continue_of, refused_as}
 use Rattle.zot_session.specs.Waiting.{HoldsMessage, Waiting, held}
 
 -- bytes were taken from the source

@@ -1,5 +1,5 @@
 -- What a connection was from its first byte to its end.
-use Rattle.std.specs.Prelude.{◌≡◌, ℕ, ◌≤◌, List, length, map, Option}
+use Rattle.std.specs.Prelude.{ℕ, ◌≤◌, List, length, map, Option}
 use Rattle.std.specs.List.{AllByRecursion}
 use Rattle.zot_outside.specs.Streams.{Appends, Takes}
 use Rattle.zot_session.specs.declared.end.End.{End}

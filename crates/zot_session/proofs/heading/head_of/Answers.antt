@@ -1,4 +1,4 @@
-use Rattle.std.proofs.Common.{◌≤◌, length, take, refl, sym, ap, subst, arith}
+use Rattle.std.proofs.Common.{◌≤◌, length, take, sym, ap, subst, arith}
 use Rattle.std.proofs.lemmas.List.{length-take}
 use Rattle.std.specs.Prelude.{Err}
 use Rattle.zot_head.specs.Front.{IsCrowded, IsHead, IsNoHead}

@@ -1,5 +1,4 @@
-use Rattle.std.proofs.Common.{◌≡◌, ◌∙◌, ◌-◌, ℕ, Bool, ap, refl, sym, subst, false}
-use Rattle.zot_head.specs.Front as fronts
+use Rattle.std.proofs.Common.{◌∙◌, ◌-◌, ℕ, Bool, ap, refl, sym, subst, false}
 use Rattle.zot_session.specs.Cuts.{end_at}
 use Rattle.zot_session.specs.Messages.{is_blank}
 use Rattle.zot_session.specs.Receiving.{Bodies, Heads, MessageRefused}

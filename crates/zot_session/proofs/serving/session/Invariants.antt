@@ -1,4 +1,4 @@
-use Rattle.std.proofs.Common.{◌≡◌, ℕ, ◌+◌, ◌-◌, ◌*◌, ◌≤◌, length}
+use Rattle.std.proofs.Common.{◌≡◌, ◌+◌, ◌-◌, ◌*◌, ◌≤◌, length}
 use Rattle.zot_session.specs.Cuts.{budget}
 use Rattle.zot_session.specs.Waiting.{piece}
 use Rattle.zot_session.proofs.SessionLemmas.{SoFar}
