@@ -1,6 +1,6 @@
 -- What the bodies and the links of pages of tags are.
-use Rattle.std.proofs.Common.{◌≡◌, ℕ, zero, suc, ◌<◌, ◌^◌, Bool, true, false, List, [], ◌∷◌, ◌++◌, map, refl, sym, ap, ap₂, subst, ◌∙◌, arith, slice_index, append-nil}
-use Rattle.std.specs.Prelude.{Err, IfOk, IfSome, None, Ok, Option, Result, Some, codes, option_map}
+use Rattle.std.proofs.Common.{◌≡◌, ℕ, zero, suc, ◌<◌, ◌^◌, Bool, true, false, List, [], ◌∷◌, ◌++◌, map, refl, sym, ap, ap₂, ◌∙◌, arith, slice_index, append-nil}
+use Rattle.std.specs.Prelude.{codes}
 use Rattle.std.specs.Borrow.{Bor}
 use Rattle.std.specs.Fmt.{decimal}
 use Rattle.std.specs.List.{AllByRecursion, AllPass}
@@ -11,13 +11,11 @@ use Rattle.json.specs.Print.{escape, escape_byte, quoted}
 use Rattle.serde_json.specs.Data.{string}
 use Rattle.serde_json.specs.View.{items_of}
 use Rattle.serde_json.specs.Written.{comma_if, items_text}
-use Rattle.zot_model.specs.Values.{IsWord}
 use Rattle.zot_names.proofs.ByteLemmas.{tag_bytes}
 use Rattle.zot_names.specs.Name.{is_name_byte}
 use Rattle.zot_names.specs.Tag.{IsTag, is_tag_byte}
 use Rattle.zot_reply.proofs.TextLemmas.{decimal_free, free_by_test, tag_free}
 use Rattle.zot_reply.specs.Pages.{link_rest, tags_text}
-use Rattle.zot_spell.specs.Alike.{ArePagesAlike}
 use Rattle.zot_spell.specs.Bodies.{page_body, page_value}
 use Rattle.zot_spell.specs.Fields.{link_text, page_place}
 use Rattle.zot_spell.specs.Heads.{IsFree}
@@ -134,21 +132,3 @@ same_link name n m t u x y p q e =
     let number = same_ended 38 (decimal n) (decimal m) (codes "last=" ++ (t ++ (62 ∷ end))) (codes "last=" ++ (u ++ (62 ∷ end))) (decimal_free 38 n (omega arith)) (decimal_free 38 m (omega arith)) rest in
     let last = cut_front (codes "last=") (t ++ (62 ∷ end)) (u ++ (62 ∷ end)) number.1 in
     ((same_ended 62 t u end end (tag_free 62 t refl p) (tag_free 62 u refl q) last).0, decimal_injective n m x y number.0)
-
--- the tag of a link, where it is found at its place
-pub linked_tag : {E : Type 0} (result : Result (Option (List ℕ)) E) (name link text : List ℕ) → ((n : ℕ) (tag : List ℕ) → IsTag tag → link ≡ link_text name n tag → text ≡ tag)
-    → IfOk result (λ found. (tag : List ℕ) → IsTag tag → text ≡ tag → found ≡ Some tag) → IfOk result (λ found. (n : ℕ) (tag : List ℕ) → IsTag tag → link ≡ link_text name n tag → found ≡ Some tag)
-linked_tag (Ok found) name link text at read = λ n tag is e. read tag is (at n tag is e)
-linked_tag (Err e) name link text at read = tt
-
--- the link to the next page, where there is one
-pub link_found : (name link : List ℕ) (value next : Option (List ℕ)) (n : ℕ) → value ≡ Some link → ((m : ℕ) (tag : List ℕ) → IsTag tag → link ≡ link_text name m tag → next ≡ Some tag)
-    → ((m : ℕ) (tag : List ℕ) → IsWord m → link ≡ link_text name m tag → m ≡ n) → (tag : Option (List ℕ)) (m : ℕ) → IfSome tag IsTag → IsWord m → value ≡ option_map (link_text name m) tag → ArePagesAlike tag m next n
-link_found name link value next n is tagged counted (Some tag) m real word e =
-    let same : link ≡ link_text name m tag = cc (e, is) in
-    subst (λ (o : Option (List ℕ)). ArePagesAlike (Some tag) m o n) (sym (tagged m tag real same)) (refl, counted m tag word same)
-link_found name link value next n is tagged counted None m real word e = cc (e, is)
-
-pub no_link_found : (name : List ℕ) (value : Option (List ℕ)) → value ≡ None → (tag : Option (List ℕ)) (m : ℕ) → IfSome tag IsTag → IsWord m → value ≡ option_map (link_text name m) tag → ArePagesAlike tag m None 0
-no_link_found name value is (Some tag) m real word e = cc (e, is)
-no_link_found name value is None m real word e = tt

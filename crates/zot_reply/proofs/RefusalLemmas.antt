@@ -29,7 +29,7 @@ use Rattle.zot_reply.specs.Reading.{seen_in, Seen}
 use Rattle.zot_spell.proofs.AlikeLemmas.{unseen_size, differ_plain, digest_length}
 use Rattle.zot_spell.proofs.CutLemmas.{cut_front, same_long}
 use Rattle.zot_spell.proofs.PlainLemmas.{IsPlain, plain_digest, plain_text}
-use Rattle.zot_spell.specs.Alike.{IsDetail, AreDetailsAlike, AreSeenAlike, AreSizesAlike, AreUnseenAlike, AreAlike}
+use Rattle.zot_spell.specs.Alike.{IsDetail, AreDetailsAlike, AreSizesAlike, AreAlike}
 use Rattle.zot_spell.specs.Bodies.{detail_text, error_body, errors_value}
 use Rattle.zot_spell.specs.Fields.{allow_field, length_fields, upload_fields}
 use Rattle.zot_spell.specs.Heads.{field_of, length_field_of, name_text, type_fields, value_in}
@@ -173,14 +173,10 @@ found_at wanted is = simp length-append (omega (arith, digest_length wanted is))
 
 -- ---- what is seen of a detail is read as its values
 
-no_front : (code : Code) (rest : List ℕ) → [] ≡ detail_front code ++ rest → ⊥
-unfolding detail_front
-no_front code rest e = cc e
-
 -- the digest at its place in a body is found there, and any in a body that isn't shown
 finds_digest : (head : Bool) (code : Code) (body front digest rest : List ℕ) (place : ℕ) → length front ≡ place → IsDigest digest → body ≡ detail_front code ++ (front ++ (digest_text digest ++ rest)) → FindsDigest code (shown_body head body) place digest
-unfolding shown_body
-finds_digest true code body front digest rest place l is e = λ f d r m real h. absurd (no_front code (f ++ (digest_text d ++ r)) h)
+unfolding shown_body detail_front
+finds_digest true code body front digest rest place l is e = λ f d r m real h. cc h
 finds_digest false code body front digest rest place l is e = λ f d r m real h.
     let whole = cut_front (detail_front code) (f ++ (digest_text d ++ r)) (front ++ (digest_text digest ++ rest)) (sym h ∙ e) in
     let text = same_long f front (digest_text d ++ r) (digest_text digest ++ rest) (m ∙ sym l) whole in
@@ -201,18 +197,12 @@ detail_read name code detail head close real = tt
 
 -- ---- what is read is alike to the detail that is seen
 
-seen_self : (detail : Detail) → AreSeenAlike detail detail
-seen_self (details.Session id size) = (refl, refl)
-seen_self detail = refl
-
-unseen_self : (detail : Detail) → AreUnseenAlike detail detail
-unseen_self (details.Session id size) = (refl, refl)
-unseen_self (details.Allow which) = refl
-unseen_self detail = tt
-
 pub details_self : (head : Bool) (detail : Detail) → AreDetailsAlike head detail detail
-details_self true detail = unseen_self detail
-details_self false detail = seen_self detail
+details_self true (details.Session id size) = (refl, refl)
+details_self false (details.Session id size) = (refl, refl)
+details_self true (details.Allow which) = refl
+details_self true detail = tt
+details_self false detail = refl
 
 missing_alike : (name : List ℕ) (code : Code) (d f : List ℕ) (head close : Bool) → IsDigest d → IsDetailFrom code (seen_in name (refusal_with code (details.Missing d)) head close) (details.Missing f) → AreDetailsAlike head (details.Missing d) (details.Missing f)
 unfolding parts_of shown_body

@@ -1,5 +1,5 @@
 -- No other replies to a request share a spelling, and the reply that bytes are is found.
-use Rattle.std.proofs.Common.{◌≡◌, inl, inr, ℕ, ◌<◌, ◌≤◌, Bool, List, ◌++◌, take, drop, Some, refl, sym, ap, subst, ◌∙◌, arith, [], ◌∷◌, Option, None, rules}
+use Rattle.std.proofs.Common.{◌≡◌, inl, inr, ℕ, ◌<◌, ◌≤◌, Bool, List, ◌++◌, take, drop, Some, refl, sym, ap, subst, ◌∙◌, arith, [], Option, None, rules}
 use Rattle.http.specs.StatusCode.{IsStatusCode}
 use Rattle.std.proofs.lemmas.List.{append_assoc}
 use Rattle.std.specs.Prelude.{IfOk, IfSome, IsSome, MatchOption, Result, Ok, Err, unwrap_or}
@@ -114,6 +114,10 @@ named : (name : Option (List ℕ)) → IfSome name IsName → IsFree 13 (unwrap_
 named None is = free_by_test 13 [] refl
 named (Some name) is = name_free name is
 
+pub if_ok : {E A : Type 0} {P Q : A → Type 0} (result : Result A E) → IfOk result P → ((a : A) → P a → Q a) → IfOk result Q
+if_ok (Ok a) h f = f a h
+if_ok (Err e) h f = tt
+
 in_match : {A : Type 0} {P Q : A → Type 0} (found : Option A) → ((a : A) → P a → Q a) → MatchOption found ⊥ P → MatchOption found ⊥ Q
 in_match (Some a) f m = f a m
 in_match None f m = m
@@ -133,11 +137,6 @@ wanted request bytes found values apart reply real s =
     in_match found (λ split m. record { real = real; spells = s; is_seen = (s.close, seen_same split.status p.status split.fields.items fields split.body.now body m.0 m.1 m.2) })
     (apart p.status fields body (has_status (Some request) name reply s.fits) are s.is)
 
-pub wanted_found : {E : Type 0} (result : Result (Option Reply) E) (request : Request) (bytes : List ℕ) (seen : Seen) → ((reply : Reply) → IsReal reply → Spells request reply bytes → IsWanted request reply bytes seen)
-    → IfOk result (λ f. (reply : Reply) → IsWanted request reply bytes seen → IsSome f) → IfOk result (λ f. (reply : Reply) → IsReal reply → Spells request reply bytes → IsSome f)
-wanted_found (Ok f) request bytes seen is h = λ reply real s. h reply (is reply real s)
-wanted_found (Err e) request bytes seen is h = tt
-
 -- a reply that is found is like each one that the bytes are
 pub found_alike : (request : Request) (bytes : List ℕ) (reply found : Reply) → IsReal reply → IsReal found → Spells request reply bytes → Spells request found bytes → AreAlike (is_head request.call) reply found
 found_alike request bytes reply found x y s t = alone request reply found s.close t.close s.fits t.fits x y (sym s.is ∙ t.is)
@@ -153,10 +152,6 @@ success_found request bytes seen found reply read success w =
 
 -- ---- refusals
 
-pub among_more : (code other : Code) (codes : List Code) → IsAmong (code ∷ codes) other → (other ≡ code → ⊥) → IsAmong codes other
-among_more code other codes (inl e) none = absurd (none e)
-among_more code other codes (inr h) none = h
-
 every : (code : Code) → IsAmong CODES code
 every BlobUnknown = inl refl
 every code = search rules depth 30
@@ -166,16 +161,13 @@ by_code : (request : Request) (bytes : List ℕ) (seen : Seen) (reply : Reply) (
 by_code request bytes seen (replies.Refused status code detail) P f h w = f code detail h.2 (subst (λ (s : ℕ). IsWanted request (replies.Refused s code detail) bytes seen) h.1 w)
 by_code request bytes seen reply P f h w = absurd h
 
-pub refusal_found : {E : Type 0} (result : Result (Option Reply) E) (request : Request) (bytes : List ℕ) (seen : Seen) (codes : List Code) → codes ≡ CODES
-    → ((reply : Reply) → IsSuccessOf request.call reply → IsWanted request reply bytes seen → ⊥)
-    → IfOk result (λ f. (code : Code) (detail : Detail) → IsAmong codes code → HasDetail code detail → IsWanted request (refusal_with code detail) bytes seen → IsSome f)
-    → IfOk result (λ f. (reply : Reply) → IsWanted request reply bytes seen → IsSome f)
-refusal_found (Ok f) request bytes seen codes all none h = λ reply w.
+pub refusal_found : (request : Request) (bytes : List ℕ) (seen : Seen) (codes : List Code) (found : Option Reply) → codes ≡ CODES → ((reply : Reply) → IsSuccessOf request.call reply → IsWanted request reply bytes seen → ⊥)
+    → ((code : Code) (detail : Detail) → IsAmong codes code → HasDetail code detail → IsWanted request (refusal_with code detail) bytes seen → IsSome found) → (reply : Reply) → IsWanted request reply bytes seen → IsSome found
+refusal_found request bytes seen codes found all none h reply w =
     elim w.spells.fits [
       | inl success ↦ absurd (none reply success w)
-      | inr refusal ↦ by_code request bytes seen reply (IsSome f) (λ code detail. h code detail (subst (λ (c : List Code). IsAmong c code) (sym all) (every code))) refusal w
+      | inr refusal ↦ by_code request bytes seen reply (IsSome found) (λ code detail. h code detail (subst (λ (c : List Code). IsAmong c code) (sym all) (every code))) refusal w
     ]
-refusal_found (Err e) request bytes seen codes all none h = tt
 
 refusal_fits : (request : Request) (code : Code) (detail said : Detail) (status : ℕ) → status ≡ status_of code → HasDetail code said → Fits request (refusal_with code detail) → Fits request (replies.Refused status code said)
 refusal_fits request code detail said status s has (inl k) = absurd (not_success request.call (status_of code) code detail k)
@@ -188,9 +180,3 @@ refusal_spells request code bytes seen detail said status s real has read is w =
     let from = subst (λ (z : Seen). IsDetailFrom code z said) w.is_seen.1 read in
     let alike = detail_alike (name_in (Some request)) code detail said (is_head request.call) w.is_seen.0 is w.real has from in
     spells_alike request bytes (refusal_with code detail) (replies.Refused status code said) (sym s, refl, real_detail detail w.real, real_detail said real, alike) (refusal_fits request code detail said status s has w.spells.fits) w.spells
-
-pub if_spelled : {E : Type 0} (result : Result (Option Reply) E) (request : Request) (code : Code) (bytes : List ℕ) (seen : Seen) (reply : Reply)
-    → ((detail : Detail) → HasDetail code detail → IsWanted request (refusal_with code detail) bytes seen → Spells request reply bytes) → IfOk result (λ f. Spells request reply bytes → IsSome f)
-    → IfOk result (λ f. (detail : Detail) → HasDetail code detail → IsWanted request (refusal_with code detail) bytes seen → IsSome f)
-if_spelled (Ok f) request code bytes seen reply is h = λ detail has w. h (is detail has w)
-if_spelled (Err e) request code bytes seen reply is h = tt

@@ -1,5 +1,5 @@
 -- Texts without a byte, and texts that are UTF-8.
-use Rattle.std.proofs.Common.{◌≡◌, ℕ, zero, suc, ◌+◌, ◌<◌, ◌≤◌, ◌/◌, ◌%◌, ◌==◌, Bool, true, false, not, ◌&&◌, nat_lt, inl, inr, List, [], ◌∷◌, length, refl, ap, arith, slice_index}
+use Rattle.std.proofs.Common.{◌≡◌, ℕ, zero, suc, ◌+◌, ◌<◌, ◌≤◌, ◌/◌, ◌%◌, ◌==◌, Bool, true, false, not, nat_lt, inl, inr, List, [], ◌∷◌, length, refl, ap, arith, slice_index}
 use Rattle.std.specs.Fmt.{decimal, digit_glyph, digits, digits_onto}
 use Rattle.std.specs.Int.{w64, to_be_bytes}
 use Rattle.std.specs.List.{AllPass, list_all}
@@ -27,16 +27,12 @@ use Rattle.zot_spell.proofs.CutLemmas.{free_append}
 
 -- ---- texts without a byte
 
-is_not : (b : Bool) → not b ≡ true → b ≡ false
-is_not true h = cc h
-is_not false h = refl
-
-pub free_by_test : (end : ℕ) (text : List ℕ) → list_all (λ c. not (c == end)) text ≡ true → IsFree end text
-free_by_test end text h = λ k lt. is_not (slice_index text k == end) (AllPass-from_list_all (λ c. not (c == end)) text h k 0 lt)
-
 not_true : (b : Bool) → (b ≡ true → ⊥) → b ≡ false
 not_true true h = absurd (h refl)
 not_true false h = refl
+
+pub free_by_test : (end : ℕ) (text : List ℕ) → list_all (λ c. not (c == end)) text ≡ true → IsFree end text
+free_by_test end text h = λ k lt. not_true (slice_index text k == end) (λ e. cc (AllPass-from_list_all (λ c. not (c == end)) text h k 0 lt))
 
 differs : (test : ℕ → Bool) (end c : ℕ) → test end ≡ false → test c ≡ true → (c == end) ≡ false
 differs test end c isnt is = not_true (c == end) (λ e. let same : test c ≡ test end = ap test (eqb-true c end e) in cc (isnt, is, same))
