@@ -15,7 +15,6 @@ pub fn refusal(answer: &mut Answer, given: &str) {
         "size_invalid" => Reply::size_invalid(),
         "too_many_requests" => Reply::too_many_requests(),
         "no_memory" => Reply::no_memory(),
-        "not_built" => Reply::not_built(),
         "head_invalid" => Reply::head_invalid(),
         "head_too_long" => Reply::head_too_long(),
         "name_invalid" => Reply::name_invalid(),

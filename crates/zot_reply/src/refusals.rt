@@ -14,7 +14,7 @@ use zot_model::{Code, Reply, Request, real_values};
 use zot_spell::SplitReply;
 
 /// All codes.
-pub const CODES: [Code; 24] = [
+pub const CODES: [Code; 23] = [
     Code::BlobUnknown,
     Code::BlobUploadInvalid,
     Code::BlobUploadUnknown,
@@ -38,7 +38,6 @@ pub const CODES: [Code; 24] = [
     Code::PeerFault,
     Code::NoMemory,
     Code::HopRefused,
-    Code::NotBuilt,
 ];
 
 /// The refusal of a request with one of these codes that bytes are, if they are one.

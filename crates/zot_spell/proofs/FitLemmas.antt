@@ -4,7 +4,7 @@ use Rattle.http.specs.StatusCode.{IsStatusCode}
 use Rattle.zot_model.specs.declared.call.Call.{Call}
 use Rattle.zot_model.specs.declared.call.Call.TheVariants as calls
 use Rattle.zot_model.specs.declared.code.Code.{Code}
-use Rattle.zot_model.specs.declared.code.Code.TheVariants.{BlobUnknown, BlobUploadInvalid, BlobUploadUnknown, DigestInvalid, HeadInvalid, HeadTooLong, HopRefused, ManifestBlobUnknown, ManifestInvalid, ManifestUnknown, NameInvalid, NameUnknown, NoMemory, NotBuilt, PeerFault, SizeInvalid, StorageFault, TooManyRequests, Unsupported, UpstreamFault, UpstreamIncomplete, UpstreamInvalid, UpstreamMismatch, UpstreamTooLarge}
+use Rattle.zot_model.specs.declared.code.Code.TheVariants.{BlobUnknown, BlobUploadInvalid, BlobUploadUnknown, DigestInvalid, HeadInvalid, HeadTooLong, HopRefused, ManifestBlobUnknown, ManifestInvalid, ManifestUnknown, NameInvalid, NameUnknown, NoMemory, PeerFault, SizeInvalid, StorageFault, TooManyRequests, Unsupported, UpstreamFault, UpstreamIncomplete, UpstreamInvalid, UpstreamMismatch, UpstreamTooLarge}
 use Rattle.zot_model.specs.declared.detail.Detail.{Detail}
 use Rattle.zot_model.specs.declared.reply.Reply.{Reply}
 use Rattle.zot_model.specs.declared.reply.Reply.TheVariants as replies
@@ -79,7 +79,6 @@ declined_three ManifestUnknown status detail h = is_three status 404 h.0 (omega 
 declined_three NameInvalid status detail h = is_three status 400 h.0 (omega arith) (omega arith)
 declined_three NameUnknown status detail h = absurd h
 declined_three NoMemory status detail h = is_three status 503 h.0 (omega arith) (omega arith)
-declined_three NotBuilt status detail h = absurd h
 declined_three PeerFault status detail h = absurd h
 declined_three SizeInvalid status detail h = is_three status 413 h.0 (omega arith) (omega arith)
 declined_three StorageFault status detail h = absurd h
