@@ -20,7 +20,7 @@ use Rattle.zot_names.specs.Name.{IsName}
 use Rattle.zot_names.specs.Tag.{IsTag}
 use Rattle.zot_names.specs.Upload.{upload_text}
 use Rattle.zot_route.specs.declared.method.Method.{Method}
-use Rattle.zot_route.specs.declared.method.Method.TheVariants.{Delete, Get, Head, Other, Patch, Post, Put}
+use Rattle.zot_route.specs.declared.method.Method.TheVariants.{Delete, Get, Head, Patch, Post, Put}
 use Rattle.zot_route.specs.Lines.{AreMedia}
 
 -- the call that a message makes, or the refusal of a message that makes none
