@@ -1,7 +1,14 @@
 -- What the plain registry answers fits what was asked.
 use Rattle.std.proofs.Common.{◌≡◌, ◌≢◌, inl, inr, ℕ, Bool, true, false, List, ◌++◌, length, Option, Some, None, refl, sym, subst, if◌then◌else◌}
 use Rattle.std.specs.FinMap as map
+use Rattle.sha2.specs.Sha256.{sha256}
 use Rattle.zot_digest.specs.Digest.{is_sound}
+use Rattle.zot_media.specs.Manifest.{reading}
+use Rattle.zot_media.specs.References.{needed}
+use Rattle.zot_media.specs.declared.media.Media.{Media}
+use Rattle.zot_media.specs.declared.reading.Reading.{Reading}
+use Rattle.zot_media.specs.declared.reference.Reference.{Reference}
+use Rattle.zot_media.specs.declared.reference.Reference.TheVariants as by
 use Rattle.zot_model.specs.declared.call.Call.{Call}
 use Rattle.zot_model.specs.declared.call.Call.TheVariants as calls
 use Rattle.zot_model.specs.declared.code.Code.{Code}
@@ -13,7 +20,12 @@ use Rattle.zot_model.specs.declared.reply.Reply.{Reply}
 use Rattle.zot_model.specs.declared.span.Span.{Span}
 use Rattle.zot_model.specs.Fits.{FitsCall, IsAmong, codes_of, common_codes, finish_codes, upload_codes}
 use Rattle.zot_model.specs.Pieces.{goes_on, keeps_limit}
-use Rattle.zot_model.specs.Plain.{MayAnswer, Outcome, at_found, if_taken, plain, plain_begin, plain_finish, plain_get, plain_head, plain_patch, plain_post, plain_state}
+use Rattle.zot_model.specs.Manifests.{Found, first_missing, is_needed, manifest_of}
+use Rattle.zot_model.specs.Outcomes.{Outcome}
+use Rattle.zot_model.specs.Plain.{MayAnswer, plain}
+use Rattle.zot_model.specs.PlainBlobs.{delete_found, plain_get, plain_head, plain_post}
+use Rattle.zot_model.specs.PlainManifests.{get_found, head_found, is_other, put_checked, put_read}
+use Rattle.zot_model.specs.PlainUploads.{at_found, if_taken, plain_begin, plain_finish, plain_patch, plain_state}
 use Rattle.zot_model.specs.Refusals.{no_memory, refusal}
 use Rattle.zot_model.specs.State.{RepoState, RowState, Stored, repo_at}
 use Rattle.zot_model.specs.Uploads.{OpenUpload, is_full}
@@ -32,17 +44,17 @@ common : (call : Call) (code : Code) → call ≢ calls.Base → IsAmong common_
 common calls.Base code named h = absurd (named refl)
 common (calls.GetBlob digest) code named h = inr h
 common (calls.HeadBlob digest) code named h = inr h
-common (calls.DeleteBlob digest) code named h = inr (inr (inr h))
+common (calls.DeleteBlob digest) code named h = inr (inr h)
 common (calls.Post mount (Some digest) body) code named h = inr h
 common (calls.Post mount None body) code named h = inr h
 common (calls.Patch id range body) code named h = upload_common id range code h
 common (calls.Finish id range digest body) code named h = finish_common id range code h
 common (calls.UploadState id) code named h = inr h
-common (calls.PutManifest reference media body) code named h = inr (inr (inr (inr h)))
-common (calls.GetManifest reference) code named h = inr (inr (inr (inr (inr (inr (inr h))))))
-common (calls.HeadManifest reference) code named h = inr (inr (inr (inr (inr (inr (inr h))))))
-common (calls.DeleteManifest reference) code named h = inr (inr h)
-common (calls.Tags n last) code named h = inr (inr h)
+common (calls.PutManifest reference media body) code named h = inr (inr (inr h))
+common (calls.GetManifest reference) code named h = inr (inr (inr (inr (inr (inr h)))))
+common (calls.HeadManifest reference) code named h = inr (inr (inr (inr (inr (inr h)))))
+common (calls.DeleteManifest reference) code named h = inr h
+common (calls.Tags n last) code named h = inr h
 common (calls.Referrers digest filter) code named h = inr h
 
 says_nothing : (code : Code) → IsAmong common_codes code → HasDetail code details.None
@@ -118,12 +130,38 @@ finish_fits moment repo asked range digest piece id (Some upload) =
     finish_taken repo id upload piece _ asked range digest
     (chosen (calls.Finish (Some asked) range digest piece) (is_sound digest (upload.bytes ++ piece)) _ _ (inl tt) (inr (inl refl, refl, tt)))
 
+-- ---- manifests and tags
+
+delete_fits : (repo : RepoState) (digest : List ℕ) (found : Option Stored) → FitsCall (calls.DeleteBlob digest) (delete_found repo digest found).reply
+delete_fits repo digest None = inr (inl refl, refl, tt)
+delete_fits repo digest (Some stored) = chosen (calls.DeleteBlob digest) (is_needed repo digest) _ _ (inr (inr (inl refl), refl, refl)) (inl tt)
+
+get_manifest_fits : (moment : ℕ) (repo : RepoState) (reference : Reference) (found : Option Found) → FitsCall (calls.GetManifest reference) (get_found moment repo reference found).reply
+get_manifest_fits moment repo reference None = inr (inl refl, refl, tt)
+get_manifest_fits moment repo reference (Some found) = inl tt
+
+head_manifest_fits : (repo : RepoState) (reference : Reference) (found : Option Found) → FitsCall (calls.HeadManifest reference) (head_found repo found).reply
+head_manifest_fits repo reference None = inr (inl refl, refl, tt)
+head_manifest_fits repo reference (Some found) = inl tt
+
+checked_fits : (moment : ℕ) (repo : RepoState) (reference : Reference) (digest : List ℕ) (media : Media) (body : List ℕ) (read : Reading) (missing : Option (List ℕ))
+    → FitsCall (calls.PutManifest reference (Some media) body) (put_checked moment repo reference digest media body read missing).reply
+checked_fits moment repo reference digest media body read (Some missing) = inr (inr (inr (inl refl)), refl, tt)
+checked_fits moment repo reference digest media body read None = inl tt
+
+put_fits : (moment : ℕ) (repo : RepoState) (reference : Reference) (media : Media) (body : List ℕ) (read : Option Reading)
+    → FitsCall (calls.PutManifest reference (Some media) body) (put_read moment repo reference media body read).reply
+put_fits moment repo reference media body None = inr (inl refl, refl, tt)
+put_fits moment repo reference media body (Some read) =
+    chosen (calls.PutManifest reference (Some media) body) (is_other reference (sha256 body)) _ _ (inr (inr (inl refl), refl, tt))
+    (checked_fits moment repo reference (sha256 body) media body read (first_missing (map.contains_key repo.blobs) (needed read)))
+
 plain_fits : (moment : ℕ) (repo : RepoState) (call : Call) → call ≢ calls.Base → FitsCall call (plain moment repo call).reply
 unfolding plain
 plain_fits moment repo calls.Base named = absurd (named refl)
 plain_fits moment repo (calls.GetBlob digest) named = get_fits repo digest (map.get repo.blobs digest) refl
 plain_fits moment repo (calls.HeadBlob digest) named = head_fits repo digest (map.get repo.blobs digest) refl
-plain_fits moment repo (calls.DeleteBlob digest) named = inr (inr (inr (inl refl)), refl, tt)
+plain_fits moment repo (calls.DeleteBlob digest) named = delete_fits repo digest (map.get repo.blobs digest)
 plain_fits moment repo (calls.Post mount (Some digest) body) named = post_fits moment repo mount digest body
 plain_fits moment repo (calls.Post mount None body) named = begin_fits moment repo mount body
 plain_fits moment repo (calls.Patch None range body) named = inr (inl refl, refl, tt)
@@ -132,11 +170,13 @@ plain_fits moment repo (calls.Finish None range digest body) named = inr (inl re
 plain_fits moment repo (calls.Finish (Some id) range digest body) named = finish_fits moment repo id range digest body id (map.get repo.sessions.uploads id)
 plain_fits moment repo (calls.UploadState None) named = inr (inl refl, refl, tt)
 plain_fits moment repo (calls.UploadState (Some id)) named = state_fits repo id id (map.get repo.sessions.uploads id)
-plain_fits moment repo (calls.PutManifest reference media body) named = inr (inr (inr (inr (inl refl))), refl, tt)
-plain_fits moment repo (calls.GetManifest reference) named = inr (inr (inr (inr (inr (inr (inr (inl refl)))))), refl, tt)
-plain_fits moment repo (calls.HeadManifest reference) named = inr (inr (inr (inr (inr (inr (inr (inl refl)))))), refl, tt)
-plain_fits moment repo (calls.DeleteManifest reference) named = inr (inr (inl refl), refl, tt)
-plain_fits moment repo (calls.Tags n last) named = inr (inr (inl refl), refl, tt)
+plain_fits moment repo (calls.PutManifest reference None body) named = inr (inl refl, refl, tt)
+plain_fits moment repo (calls.PutManifest reference (Some media) body) named = put_fits moment repo reference media body (reading media body)
+plain_fits moment repo (calls.GetManifest reference) named = get_manifest_fits moment repo reference (manifest_of repo reference)
+plain_fits moment repo (calls.HeadManifest reference) named = head_manifest_fits repo reference (manifest_of repo reference)
+plain_fits moment repo (calls.DeleteManifest (by.Tag tag)) named = chosen (calls.DeleteManifest (by.Tag tag)) (map.contains_key repo.tags tag) _ _ (inl tt) (inr (inl refl, refl, tt))
+plain_fits moment repo (calls.DeleteManifest (by.Digest digest)) named = chosen (calls.DeleteManifest (by.Digest digest)) (map.contains_key repo.manifests digest) _ _ (inl tt) (inr (inl refl, refl, tt))
+plain_fits moment repo (calls.Tags n last) named = chosen (calls.Tags n last) repo.known _ _ (inl tt) (inr (inl refl, refl, tt))
 plain_fits moment repo (calls.Referrers digest filter) named = inr (inl refl, refl, tt)
 
 -- each answer to a call on a repository fits it

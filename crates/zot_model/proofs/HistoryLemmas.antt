@@ -1,12 +1,12 @@
 -- Rows that are the same state, and what a call may leave.
-use Rattle.std.proofs.Common.{◌≡◌, inl, inr, ℕ, List, Option, Some, None, refl, sym, subst, ◌∙◌}
+use Rattle.std.proofs.Common.{inl, inr, ℕ, List, Option, Some, None, refl, subst, ◌∙◌}
 use Rattle.std.specs.Prelude.{IsSomeAnd}
 use Rattle.zot_history.specs.Run.{IsAlikeFor}
 use Rattle.zot_model.specs.declared.call.Call.{Call}
 use Rattle.zot_model.specs.declared.reply.Reply.{Reply}
-use Rattle.zot_model.specs.History.{Entry, Event, Happens, Step, asked}
+use Rattle.zot_model.specs.History.{Event, Happens, Step, asked}
 use Rattle.zot_model.specs.Plain.{GoesWithoutFault, MayAnswer}
-use Rattle.zot_model.specs.State.{AreSame, RepoState, RowState, repo_at}
+use Rattle.zot_model.specs.State.{AreSame, RepoState, RowState}
 
 pub same_itself : (row : RowState) → AreSame row row
 same_itself row = record { repos = λ name. refl; faults = refl }

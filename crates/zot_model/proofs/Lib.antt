@@ -1,3 +1,6 @@
 pub mod AloneLemmas
 pub mod FitLemmas
 pub mod HistoryLemmas
+pub mod KeptLemmas
+pub mod PageLemmas
+pub mod PushLemmas

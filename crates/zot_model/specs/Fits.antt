@@ -28,7 +28,7 @@ unbuilt_codes = NotBuilt ∷ common_codes
 
 -- the codes with which a wanted manifest may be refused
 abbrev pub manifest_codes : List Code
-manifest_codes = ManifestUnknown ∷ UpstreamFault ∷ UpstreamMismatch ∷ UpstreamIncomplete ∷ UpstreamInvalid ∷ UpstreamTooLarge ∷ unbuilt_codes
+manifest_codes = ManifestUnknown ∷ UpstreamFault ∷ UpstreamMismatch ∷ UpstreamIncomplete ∷ UpstreamInvalid ∷ UpstreamTooLarge ∷ common_codes
 
 -- the codes with which a POST may be refused: of a blob with its digest, or of a new upload
 abbrev pub post_codes : Option (List ℕ) → List Code
@@ -51,16 +51,16 @@ abbrev pub codes_of : Call → List Code
 codes_of calls.Base = []
 codes_of (calls.GetBlob digest) = BlobUnknown ∷ common_codes
 codes_of (calls.HeadBlob digest) = BlobUnknown ∷ common_codes
-codes_of (calls.DeleteBlob digest) = BlobUnknown ∷ Unsupported ∷ unbuilt_codes
+codes_of (calls.DeleteBlob digest) = BlobUnknown ∷ Unsupported ∷ common_codes
 codes_of (calls.Post mount digest body) = post_codes digest
 codes_of (calls.Patch id range body) = upload_codes id range
 codes_of (calls.Finish id range digest body) = finish_codes id range
 codes_of (calls.UploadState id) = BlobUploadUnknown ∷ common_codes
-codes_of (calls.PutManifest reference media body) = ManifestInvalid ∷ DigestInvalid ∷ ManifestBlobUnknown ∷ unbuilt_codes
+codes_of (calls.PutManifest reference media body) = ManifestInvalid ∷ DigestInvalid ∷ ManifestBlobUnknown ∷ common_codes
 codes_of (calls.GetManifest reference) = manifest_codes
 codes_of (calls.HeadManifest reference) = manifest_codes
-codes_of (calls.DeleteManifest reference) = ManifestUnknown ∷ unbuilt_codes
-codes_of (calls.Tags n last) = NameUnknown ∷ unbuilt_codes
+codes_of (calls.DeleteManifest reference) = ManifestUnknown ∷ common_codes
+codes_of (calls.Tags n last) = NameUnknown ∷ common_codes
 codes_of (calls.Referrers digest filter) = unbuilt_codes
 
 -- the call may be refused so

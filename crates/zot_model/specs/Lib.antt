@@ -4,8 +4,15 @@ pub mod Calls
 pub mod Codes
 pub mod Fits
 pub mod History
+pub mod Kept
+pub mod Manifests
+pub mod Outcomes
+pub mod Pages
 pub mod Pieces
 pub mod Plain
+pub mod PlainBlobs
+pub mod PlainManifests
+pub mod PlainUploads
 pub mod Refusals
 pub mod State
 pub mod Uploads

@@ -175,7 +175,7 @@ fn may_have(call: &Call, code: Code) -> bool
         Call::Base => false,
         Call::GetBlob(_) | Call::HeadBlob(_) => code == Code::BlobUnknown || is_common(code),
         Call::DeleteBlob(_) => {
-            code == Code::BlobUnknown || code == Code::Unsupported || is_unbuilt(code)
+            code == Code::BlobUnknown || code == Code::Unsupported || is_common(code)
         }
         Call::Post { digest, .. } => match digest {
             Some(_) => code == Code::DigestInvalid || is_common(code),
@@ -190,11 +190,11 @@ fn may_have(call: &Call, code: Code) -> bool
             code == Code::ManifestInvalid
                 || code == Code::DigestInvalid
                 || code == Code::ManifestBlobUnknown
-                || is_unbuilt(code)
+                || is_common(code)
         }
         Call::GetManifest(_) | Call::HeadManifest(_) => is_of_manifest(code),
-        Call::DeleteManifest(_) => code == Code::ManifestUnknown || is_unbuilt(code),
-        Call::Tags { .. } => code == Code::NameUnknown || is_unbuilt(code),
+        Call::DeleteManifest(_) => code == Code::ManifestUnknown || is_common(code),
+        Call::Tags { .. } => code == Code::NameUnknown || is_common(code),
         Call::Referrers { .. } => is_unbuilt(code),
     }
 }
@@ -219,7 +219,7 @@ fn is_of_manifest(code: Code) -> bool
         || code == Code::UpstreamIncomplete
         || code == Code::UpstreamInvalid
         || code == Code::UpstreamTooLarge
-        || is_unbuilt(code)
+        || is_common(code)
 }
 
 // Whether it is a code of a call that isn't built.

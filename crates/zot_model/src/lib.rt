@@ -27,7 +27,10 @@ pub use crate::call::Call;
 pub use crate::code::Code;
 pub use crate::detail::Detail;
 pub use crate::fitting::fits;
-pub use crate::laws::{answers_fit, common_refusals_fit, repositories_stand_alone};
+pub use crate::laws::{
+    answers_fit, common_refusals_fit, manifest_comes_back, needed_blobs_stay, pages_are_the_list,
+    repositories_stand_alone,
+};
 pub use crate::limits::{BODY_LIMIT, LAST_ID, MANIFEST_LIMIT, OPEN_LIMIT, UPLOAD_LIMIT};
 pub use crate::methods::Methods;
 pub use crate::mount::Mount;

@@ -2,12 +2,14 @@
 ghost use Rattle.std.specs.Prelude.{◌≡◌};
 ghost use Rattle.zot_model.specs.Refusals.{declined, no_memory, not_allowed, not_built, range_invalid, refusal, refusal_with, unsupported_path, unsupported_query, upload_invalid};
 ghost use Rattle.zot_model.specs.declared.code.Code.TheVariants as codes;
+ghost use Rattle.zot_model.specs.declared.detail.Detail.TheVariants as details;
 
 use crate::code::Code;
 use crate::code_row::{NO_NUMBER, NO_PATH, NO_RANGE};
 use crate::detail::Detail;
 use crate::methods::Methods;
 use crate::reply::Reply;
+use zot_digest::Digest;
 use zot_names::UploadId;
 
 /// Refusals of requests, each with its code's status.
@@ -52,6 +54,20 @@ impl Reply {
         ensures { result ≡ refusal codes.ManifestUnknown }
     {
         refusal(Code::ManifestUnknown)
+    }
+
+    /// A manifest needs this blob, which the repository doesn't have.
+    pub fn manifest_blob_unknown(missing: Digest) -> Self
+        ensures { result ≡ refusal_with codes.ManifestBlobUnknown (details.Missing missing) }
+    {
+        refusal_with(Code::ManifestBlobUnknown, Detail::Missing(missing))
+    }
+
+    /// Nobody has stored anything in the repository.
+    pub fn name_unknown() -> Self
+        ensures { result ≡ refusal codes.NameUnknown }
+    {
+        refusal(Code::NameUnknown)
     }
 
     /// A body is longer than its limit.

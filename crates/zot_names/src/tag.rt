@@ -72,6 +72,22 @@ impl Tag {
         self.text.as_str().as_bytes()
     }
 
+    /// The text of the tag as words, by which maps with other texts look it up.
+    pub fn words(&self) -> &Words
+        ensures value { result.now ≡ self.now }
+        ensures tag { IsTag self.now }
+    {
+        &self.text
+    }
+
+    /// The same words, which aren't copied.
+    pub fn into_words(self) -> Words
+        ensures value { result ≡ self }
+        ensures tag { IsTag self }
+    {
+        self.text
+    }
+
     /// A second copy of the tag. It fails only where memory runs out.
     pub fn copy(&self, alloc: Global) -> Result<Tag, AllocError>
         ensures { IfOk result (λ copy. copy ≡ self.now) }

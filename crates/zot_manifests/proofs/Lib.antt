@@ -1,0 +1,4 @@
+pub mod CheckLemmas
+pub mod IndexLemmas
+pub mod TagLemmas
+pub mod TableLemmas

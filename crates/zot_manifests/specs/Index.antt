@@ -1,0 +1,25 @@
+-- Which manifests may refer to a digest, without reading them all.
+use Rattle.std.specs.Prelude.{◌≡◌, ℕ, Bool, true, false, List, Option, Some, None}
+use Rattle.std.specs.BTreeMap.{BTreeMap, get}
+use Rattle.std.specs.BTreeSet.{BTreeSet, contains}
+use Rattle.std.specs.FinMap as finite
+use Rattle.zot_digest.specs.ByteMap.{ByteMap, byte_cmp}
+use Rattle.zot_manifests.specs.declared.kept.Kept.{Kept}
+use Rattle.zot_media.specs.References.{refers}
+
+-- whether a set that may be missing has a digest
+abbrev pub set_has : Option (BTreeSet (List ℕ)) → List ℕ → Bool
+set_has None digest = false
+set_has (Some set) digest = contains byte_cmp set digest
+
+-- whether the manifest of a digest is listed as one that refers to another digest
+abbrev pub lists : BTreeMap (List ℕ) (BTreeSet (List ℕ)) → List ℕ → List ℕ → Bool
+lists sets referred digest = set_has (get byte_cmp sets referred) digest
+
+-- what was listed is listed still
+abbrev pub KeepsListed : BTreeMap (List ℕ) (BTreeSet (List ℕ)) → BTreeMap (List ℕ) (BTreeSet (List ℕ)) → Type 0
+KeepsListed old new = (referred digest : List ℕ) → lists old referred digest ≡ true → lists new referred digest ≡ true
+
+-- each manifest is listed under each digest that it refers to. More may be listed: what is found under a digest is looked at
+abbrev pub ListsAll : ByteMap Kept → BTreeMap (List ℕ) (BTreeSet (List ℕ)) → Type 0
+ListsAll manifests sets = (digest referred : List ℕ) (kept : Kept) → finite.get manifests digest ≡ Some kept → refers kept.reading referred ≡ true → lists sets referred digest ≡ true

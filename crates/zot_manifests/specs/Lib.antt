@@ -1,0 +1,5 @@
+pub mod Table
+pub mod Codes
+pub mod Check
+pub mod Index
+pub mod Tags

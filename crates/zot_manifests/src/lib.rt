@@ -1,0 +1,24 @@
+//! The manifests and tags of one repository: each call answers by the first case that fits, as finite maps of them would.
+//!
+//! `manifests.check(alloc, &held, &reference, media, body)` says whether a manifest may be put, `manifests.put(alloc, checked,
+//! moment)` puts it, and `manifests.find(&reference)` gives its digest.
+#![tactic(auto)]
+
+mod check_error;
+mod checked;
+mod checking;
+mod held;
+mod index;
+mod kept;
+mod manifest_map;
+mod manifests;
+mod page;
+mod tag_entry;
+mod tag_map;
+
+pub use crate::check_error::CheckError;
+pub use crate::checked::Checked;
+pub use crate::held::Held;
+pub use crate::kept::Kept;
+pub use crate::manifests::Manifests;
+pub use crate::page::Page;

@@ -1,0 +1,194 @@
+//! The manifests and tags of one repository.
+ghost use Rattle.std.specs.Prelude.{◌≡◌, false, true, IfOk, IsTrue, OnErr, OnOk, option_copied, option_map};
+ghost use Rattle.std.specs.FinMap as finite;
+ghost use Rattle.zot_manifests.specs.Table.{empty_table, found_by, is_referred, pulled, put_back, says, with_manifest, without_manifest, without_tag};
+ghost use Rattle.zot_model.specs.Manifests.{with_tag};
+ghost use Rattle.zot_model.specs.Pages.{page};
+
+use crate::checked::Checked;
+use crate::index::Index;
+use crate::kept::Kept;
+use crate::manifest_map::ManifestMap;
+use crate::page::Page;
+use crate::tag_entry::TagEntry;
+use crate::tag_map::TagMap;
+use std::alloc::{AllocError, Global};
+use std::marker::Model;
+use zot_digest::Digest;
+use zot_media::Reference;
+use zot_names::Tag;
+
+/// The manifests and tags of one repository, with an index of what the manifests refer to. Contracts see two finite maps.
+#[derive(Drop)]
+pub struct Manifests {
+    manifests: ManifestMap,
+    tags: TagMap,
+    index: Index,
+}
+
+impl Model for Manifests {
+    ghost use Rattle.zot_manifests.specs.Codes.{table_code};
+    ghost use Rattle.zot_manifests.specs.Index.{ListsAll};
+    ghost use Rattle.zot_manifests.specs.Table.{Table};
+
+    ghost Value = { Table };
+
+    ghost coded = { table_code };
+
+    ghost view = { λ m. record { manifests = m.manifests; tags = m.tags } };
+
+    ghost invariant = { λ m. ListsAll m.manifests m.index.sets };
+}
+
+impl Manifests {
+    /// No manifests. Takes no memory.
+    pub fn new(alloc: Global) -> Self
+        ensures { result ≡ empty_table }
+    {
+        Manifests {
+            manifests: ManifestMap::new(alloc),
+            tags: TagMap::new(alloc),
+            index: Index::new(alloc),
+        }
+    }
+
+    /// Puts a manifest that arrives at the moment, and sets its tag, if it has one, to it. After an `Err`, which comes only where memory runs out, the table is as it was.
+    pub fn put(&mut self, alloc: Global, checked: Checked, moment: u64) -> Result<(), AllocError>
+        ensures ok { OnOk result (self.new ≡ with_manifest moment self.old checked.digest checked.tag checked.media checked.reading) }
+        ensures err { OnErr result (self.new ≡ self.old) }
+    {
+        let Checked {
+            digest,
+            media,
+            tag,
+            reading,
+            size: _,
+        } = checked;
+        self.index.add(alloc, &digest, &reading)?;
+        let kept = Kept {
+            media,
+            arrived: moment,
+            reading,
+        };
+        let before = self.manifests.set(digest, kept)?;
+        put_tag(
+            &mut self.manifests,
+            &mut self.tags,
+            digest,
+            tag,
+            moment,
+            before,
+        )
+    }
+
+    /// Removes a tag, and answers whether there was one. Takes no memory.
+    pub fn remove_tag(&mut self, tag: &Tag) -> bool
+        ensures was { result ≡ finite.contains_key self.old.tags tag.now }
+        ensures removed { self.new ≡ without_tag self.old tag.now }
+    {
+        self.tags.remove(tag)
+    }
+
+    /// Removes a manifest and its tags, and answers whether there was one; else nothing changes. Takes no memory.
+    pub fn remove(&mut self, digest: &Digest) -> bool
+        ensures was { result ≡ finite.contains_key self.old.manifests digest.now }
+        ensures removed { result ≡ true → self.new ≡ without_manifest self.old digest.now }
+        ensures stays { result ≡ false → self.new ≡ self.old }
+    {
+        let Some(kept) = self.manifests.remove(digest) else {
+            return false;
+        };
+        self.index.remove(digest, &kept.reading);
+        self.tags.remove_of(digest);
+        true
+    }
+
+    /// Counts a pull by a reference at the moment: a tag has one pull more. Takes no memory.
+    pub fn pull(&mut self, reference: &Reference, moment: u64)
+        ensures { self.new ≡ pulled moment self.old reference.now }
+    {
+        if let Reference::Tag(tag) = reference {
+            self.tags.pull(tag, moment);
+        }
+    }
+
+    /// The digest that a reference finds: that of the tag's manifest, or the digest itself where there is such a manifest. Takes no memory.
+    pub fn find(&self, reference: &Reference) -> Option<Digest>
+        ensures { result ≡ found_by self.now reference.now }
+    {
+        match reference {
+            Reference::Tag(tag) => self.tags.get(tag).map(|entry| entry.digest()),
+            Reference::Digest(digest) => self.manifests.get(digest).map(|_| *digest),
+        }
+    }
+
+    /// The manifest of a digest. Takes no memory.
+    pub fn manifest(&self, digest: &Digest) -> Option<&Kept>
+        ensures { option_copied result ≡ finite.get self.now.manifests digest.now }
+    {
+        self.manifests.get(digest)
+    }
+
+    /// The page of at most n tags after a text, in byte order. It fails only where memory runs out.
+    pub fn page(
+        &self,
+        alloc: Global,
+        n: Option<u64>,
+        last: Option<&str>,
+    ) -> Result<Page, AllocError>
+        ensures tags { IfOk result (λ found. found.tags ≡ (page self.now.tags n (option_map (λ text. text.now) last.entry)).tags) }
+        ensures next { IfOk result (λ found. found.next ≡ (page self.now.tags n (option_map (λ text. text.now) last.entry)).next) }
+    {
+        self.tags.page(alloc, n, last)
+    }
+
+    /// Whether some manifest refers to a digest: by its config, any layer or a child. It looks at those alone that are listed under the digest. Takes no memory.
+    pub fn refers(&self, digest: &Digest) -> bool
+        ensures { result ≡ is_referred self.now.manifests digest.now }
+    {
+        let Some(listed) = self.index.get(digest) else {
+            return false;
+        };
+        for manifest in listed {
+            if self.says(manifest, digest) {
+                return true;
+            }
+        }
+        false
+    }
+
+    // Whether the manifest of a digest refers to another digest.
+    fn says(&self, manifest: &Digest, digest: &Digest) -> bool
+        ensures { result ≡ says (finite.get self.now.manifests manifest.now) digest.now }
+    {
+        match self.manifests.get(manifest) {
+            Some(kept) => kept.reading.refers(digest),
+            None => false,
+        }
+    }
+}
+
+// Sets a tag, if there is one, to the manifest of a digest. After an `Err` the tags are as they were, and what was under the digest before is there again.
+fn put_tag(
+    manifests: &mut ManifestMap,
+    tags: &mut TagMap,
+    digest: Digest,
+    tag: Option<Tag>,
+    moment: u64,
+    before: Option<Kept>,
+) -> Result<(), AllocError>
+    requires { IsTrue (finite.contains_key manifests.now digest) }
+    ensures ok { OnOk result ((tags.new ≡ with_tag moment tags.old tag digest) × (manifests.new ≡ manifests.old)) }
+    ensures err { OnErr result ((tags.new ≡ tags.old) × (manifests.new ≡ put_back manifests.old digest before)) }
+{
+    let Some(tag) = tag else {
+        return Ok(());
+    };
+    match tags.set(tag, TagEntry::new(digest, moment)) {
+        Ok(()) => Ok(()),
+        Err(error) => {
+            manifests.put_back(digest, before);
+            Err(error)
+        }
+    }
+}
