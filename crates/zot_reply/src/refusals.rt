@@ -13,7 +13,7 @@ use std::alloc::{AllocError, Global};
 use zot_model::{Code, Reply, Request, real_values};
 use zot_spell::SplitReply;
 
-/// All codes.
+/// All codes: of a refusal to HEAD no text of a code is shown, so each code with its status is tried. `zot_model` has the row of each code, and no list of them.
 pub const CODES: [Code; 23] = [
     Code::BlobUnknown,
     Code::BlobUploadInvalid,

@@ -16,7 +16,6 @@ use Rattle.zot_head.specs.Fields.{values_of}
 use Rattle.zot_media.specs.declared.media.Media.{Media}
 use Rattle.zot_media.specs.declared.reference.Reference.{Reference}
 use Rattle.zot_media.specs.declared.reference.Reference.TheVariants as references
-use Rattle.zot_media.specs.Document.{IsMediaIn}
 use Rattle.zot_model.specs.declared.call.Call.{Call}
 use Rattle.zot_model.specs.declared.call.Call.TheVariants as calls
 use Rattle.zot_model.specs.declared.code.Code.TheVariants.{ManifestInvalid, ManifestUnknown}
@@ -72,17 +71,8 @@ refers_one text bad (Err reply) (Err other) h k = ap Err (h.1 ∙ sym k.1)
 
 -- ---- a pushed manifest has one kind of media, or none
 
-media_in_one : (bytes : List ℕ) (media other : Option Media) → IsMediaIn bytes media → IsMediaIn bytes other → media ≡ other
-media_in_one bytes None None h k = refl
-media_in_one bytes None (Some other) h (value, is, e) = cc (h value is, e)
-media_in_one bytes (Some media) None (value, is, e) k = cc (k value is, e)
-media_in_one bytes (Some media) (Some other) (value, is, e) (more, are, f) =
-    let first = is.read_as in
-    let second = are.read_as in
-    cc (first, second, e, f)
-
 media_by_one : (values : List (List ℕ)) (body : List ℕ) (media other : Option Media) → AreMediaBy values body media → AreMediaBy values body other → media ≡ other
-media_by_one [] body media other h k = media_in_one body media other h k
+media_by_one [] body media other h k = h ∙ sym k
 media_by_one (value ∷ values) body media other h k = h ∙ sym k
 
 media_one : (fields : List Field) (body : List ℕ) (media other : Option Media) → AreMedia fields body media → AreMedia fields body other → media ≡ other

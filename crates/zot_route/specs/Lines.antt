@@ -4,7 +4,7 @@ use Rattle.std.specs.List.{after_first, before_first, filter}
 use Rattle.zot_head.specs.declared.field.Field.{Field}
 use Rattle.zot_head.specs.Fields.{length_of, values_of}
 use Rattle.zot_media.specs.declared.media.Media.{Media}
-use Rattle.zot_media.specs.Document.{IsMediaIn}
+use Rattle.zot_media.specs.Document.{media_in}
 use Rattle.zot_media.specs.Media.{media_named}
 use Rattle.zot_model.specs.declared.span.Span.{Span}
 
@@ -38,7 +38,7 @@ type_of value = filter (λ b. not (b == 32)) (before_first (λ b. b == 59) value
 
 -- the media that the first of these values names, or where there is none, those that the body names
 abbrev pub AreMediaBy : List (List ℕ) → List ℕ → Option Media → Type 0
-AreMediaBy [] body media = IsMediaIn body media
+AreMediaBy [] body media = media ≡ media_in body
 AreMediaBy (value ∷ values) body media = media ≡ media_named (type_of value)
 
 -- the media of a pushed manifest
