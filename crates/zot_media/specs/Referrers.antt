@@ -66,7 +66,7 @@ descriptor_value referrer = object (with_annotations referrer.annotations (with_
 -- the index of these manifests
 unfoldable pub referrers_value : List Referrer → Data
 referrers_value referrers = object (
-  put (codes "manifests") (array (items_of (map descriptor_value referrers))) (put (codes "mediaType") (string (media_text Index)) (put (codes "schemaVersion") (number (unsigned 2)) no_members)))
+    put (codes "manifests") (array (items_of (map descriptor_value referrers))) (put (codes "mediaType") (string (media_text Index)) (put (codes "schemaVersion") (number (unsigned 2)) no_members)))
 
 -- the manifests that say something of a digest and that a filter lets pass, in the order in which they are given
 abbrev pub referrers_among : List Pushed → List ℕ → Option (List ℕ) → List Referrer
