@@ -1,5 +1,5 @@
 -- Manifests in a table, with what they refer to.
-use Rattle.std.proofs.Common.{◌≡◌, ◌≢◌, ℕ, Bool, true, false, cond, List, [], ◌∷◌, ◌++◌, map, Option, Some, None, is_some, refl, sym, ap, subst, ◌∙◌, unwrap_or}
+use Rattle.std.proofs.Common.{◌≡◌, ◌≢◌, ℕ, Bool, true, false, cond, List, [], ◌∷◌, ◌++◌, length, map, Option, Some, None, is_some, refl, sym, ap, subst, ◌∙◌, unwrap_or, arith}
 use Rattle.std.specs.Prelude.{◌||◌, ◌&&◌, T, Result, Ok, Err, OnOk, OnErr, option_map}
 use Rattle.std.specs.BTreeMap.{BTreeMap, get}
 use Rattle.std.specs.BTreeSet.{BTreeSet}
@@ -12,7 +12,7 @@ use Rattle.std.specs.Ordering.{eq_by_cmp, is_eq, is_lt}
 use Rattle.std.specs.declared.cmp.Ordering.{Ordering}
 use Rattle.std.specs.declared.cmp.Ordering.TheVariants.{Equal, Less, Greater}
 use Rattle.std.proofs.lemmas.Bool.{true≢false}
-use Rattle.zot_digest.specs.ByteMap.{ByteMap, byte_cmp}
+use Rattle.zot_digest.specs.ByteMap.{ByteMap, byte_cmp, map_of}
 use Rattle.zot_manifests.proofs.IndexLemmas.{any_listed}
 use Rattle.zot_manifests.specs.Index.{KeepsListed, ListsAll, lists, set_has}
 use Rattle.zot_manifests.specs.Table.{is_referred, plain_manifest, plain_manifests, put_back, says}
@@ -190,8 +190,19 @@ none_refers manifests sets digest all none = isnt (is_referred manifests digest)
     true≢false (sym (said manifests digest found.0 found.1 found.2 ∙ found.3) ∙ none found.0 (all found.0 digest found.1 found.2 found.3)))
 
 -- what is gone already
-pub removed_absent : (manifests : ByteMap Kept) (digest : List ℕ) → finite.get manifests digest ≡ None → finite.remove manifests digest ≡ manifests
-removed_absent manifests digest none = same_by_key byte_order (finite.remove manifests digest) manifests digest (removed_here byte_order manifests digest ∙ sym none) (λ q apart. removed_elsewhere byte_order manifests digest q apart)
+pub removed_absent : {X : Type 0} (m : ByteMap X) (key : List ℕ) → finite.get m key ≡ None → finite.remove m key ≡ m
+removed_absent m key none = same_by_key byte_order (finite.remove m key) m key (removed_here byte_order m key ∙ sym none) (λ q apart. removed_elsewhere byte_order m key q apart)
+
+-- a tree of no entries has none
+pub none_of_empty : {X : Type 0} (es : List (List ℕ × X)) → map_of es ≡ finite.empty → length es ≡ 0
+none_of_empty [] h = refl
+none_of_empty (e ∷ es) h =
+    let has = get-from_entries nat_list_cmp_total (e ∷ es) e.0 ∙ ap (λ b. cond b (Some e.1) (find byte_cmp e.0 es)) (same_key byte_order e.0) in
+    absurd (cc (sym has ∙ ap (λ m. finite.get m e.0) h ∙ get-empty byte_cmp e.0))
+
+pub empty_of_none : {X : Type 0} (es : List (List ℕ × X)) → length es ≡ 0 → map_of es ≡ finite.empty
+empty_of_none [] h = refl
+empty_of_none (e ∷ es) h = absurd (omega (arith, h))
 
 false_unless : (b : Bool) → (b ≡ true → ⊥) → b ≡ false
 false_unless true h = absurd (h refl)
@@ -217,3 +228,12 @@ none_more test (k ∷ keys) key h is = split (test k) (none_more test keys key) 
   split : (b : Bool) → (list_any test keys ≡ false → test key ≡ false → list_any test (keys ++ key ∷ []) ≡ false) → (b || list_any test keys) ≡ false → (b || list_any test (keys ++ key ∷ [])) ≡ false
   split true more h = cc h
   split false more h = more h is
+
+none_mapped : (found : Option Kept) → option_map plain_manifest found ≡ None → found ≡ None
+none_mapped None h = refl
+none_mapped (Some kept) h = cc h
+
+-- where the plain registry has no manifests, there are none
+pub plain_none : (manifests : ByteMap Kept) → plain_manifests manifests ≡ finite.empty → manifests ≡ finite.empty
+plain_none manifests h = same_map byte_order manifests finite.empty (λ q.
+    none_mapped (finite.get manifests q) (sym (get_plain manifests q) ∙ ap (λ m. finite.get m q) h ∙ get-empty byte_cmp q) ∙ sym (get-empty byte_cmp q))

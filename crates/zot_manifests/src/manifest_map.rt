@@ -37,6 +37,13 @@ impl ManifestMap {
         }
     }
 
+    /// Whether there are none.
+    pub fn is_empty(&self) -> bool
+        ensures { IsTrue result ↔ (self.now ≡ finite.empty) }
+    {
+        self.tree.is_empty()
+    }
+
     /// The manifest of a digest.
     pub fn get(&self, digest: &Digest) -> Option<&Kept>
         ensures { option_copied result ≡ finite.get self.now digest.now }

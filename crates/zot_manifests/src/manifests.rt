@@ -1,5 +1,5 @@
 //! The manifests and tags of one repository.
-ghost use Rattle.std.specs.Prelude.{◌≡◌, false, true, IfOk, IsTrue, OnErr, OnOk, option_copied, option_map};
+ghost use Rattle.std.specs.Prelude.{◌≡◌, ◌≢◌, false, true, IfOk, IsTrue, OnErr, OnOk, option_copied, option_map};
 ghost use Rattle.std.specs.FinMap as finite;
 ghost use Rattle.zot_manifests.specs.Table.{empty_table, found_by, is_referred, pulled, put_back, says, with_manifest, without_manifest, without_tag};
 ghost use Rattle.zot_model.specs.Manifests.{with_tag};
@@ -52,6 +52,14 @@ impl Manifests {
         }
     }
 
+    /// Whether there are neither manifests nor tags. Takes no memory.
+    pub fn is_empty(&self) -> bool
+        ensures empty { result ≡ true → self.now ≡ empty_table }
+        ensures other { result ≡ false → self.now ≢ empty_table }
+    {
+        self.manifests.is_empty() && self.tags.is_empty()
+    }
+
     /// Puts a manifest that arrives at the moment, and sets its tag, if it has one, to it. After an `Err`, which comes only where memory runs out, the table is as it was.
     pub fn put(&mut self, alloc: Global, checked: Checked, moment: u64) -> Result<(), AllocError>
         ensures ok { OnOk result (self.new ≡ with_manifest moment self.old checked.digest checked.tag checked.media checked.reading) }
@@ -81,10 +89,11 @@ impl Manifests {
         )
     }
 
-    /// Removes a tag, and answers whether there was one. Takes no memory.
+    /// Removes a tag, and answers whether there was one; else nothing changes. Takes no memory.
     pub fn remove_tag(&mut self, tag: &Tag) -> bool
         ensures was { result ≡ finite.contains_key self.old.tags tag.now }
-        ensures removed { self.new ≡ without_tag self.old tag.now }
+        ensures removed { result ≡ true → self.new ≡ without_tag self.old tag.now }
+        ensures stays { result ≡ false → self.new ≡ self.old }
     {
         self.tags.remove(tag)
     }

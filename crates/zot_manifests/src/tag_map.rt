@@ -1,5 +1,5 @@
 //! The tags of a repository.
-ghost use Rattle.std.specs.Prelude.{◌≡◌, ℕ, List, take, drop, map, IfOk, OnErr, OnOk, if◌then◌else◌, None, option_copied, option_map};
+ghost use Rattle.std.specs.Prelude.{◌≡◌, ◌↔◌, IsTrue, ℕ, List, take, drop, map, IfOk, OnErr, OnOk, if◌then◌else◌, false, None, option_copied, option_map};
 ghost use Rattle.std.specs.FinMap as finite;
 ghost use Rattle.std.specs.List.{AllByRecursion};
 ghost use Rattle.zot_manifests.specs.Tags.{after};
@@ -48,6 +48,13 @@ impl TagMap {
         }
     }
 
+    /// Whether there are none.
+    pub fn is_empty(&self) -> bool
+        ensures { IsTrue result ↔ (self.now ≡ finite.empty) }
+    {
+        self.tree.is_empty()
+    }
+
     /// What is kept of a tag.
     pub fn get(&self, tag: &Tag) -> Option<&TagEntry>
         ensures { option_copied result ≡ finite.get self.now tag.now }
@@ -64,10 +71,11 @@ impl TagMap {
         Ok(())
     }
 
-    /// Removes a tag, and answers whether there was one.
+    /// Removes a tag, and answers whether there was one; else nothing changes.
     pub fn remove(&mut self, tag: &Tag) -> bool
         ensures was { result ≡ finite.contains_key self.old tag.now }
         ensures removed { self.new ≡ finite.remove self.old tag.now }
+        ensures stays { result ≡ false → self.new ≡ self.old }
     {
         self.tree.remove(tag.words()).is_some()
     }

@@ -1,2 +1,4 @@
 pub mod ReplyLemmas
+pub mod ReadLemmas
+pub mod ManifestLemmas
 pub mod RowLemmas

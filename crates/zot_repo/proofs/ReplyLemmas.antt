@@ -1,12 +1,7 @@
 -- What the parts of a repository's answer say is what the plain registry says.
-use Rattle.std.proofs.Common.{◌≡◌, ◌≢◌, ◌⊎◌, ℕ, ◌+◌, Bool, true, false, cond, List, [], ◌∷◌, ◌++◌, length, Option, Some, None, inl, inr, refl, sym, ap, ◌∙◌, subst, if◌then◌else◌}
+use Rattle.std.proofs.Common.{◌≡◌, ◌≢◌, ◌⊎◌, ℕ, ◌+◌, Bool, true, false, List, ◌++◌, length, Option, Some, None, inl, inr, refl, sym, ap, ◌∙◌, subst, if◌then◌else◌}
 use Rattle.std.specs.Prelude.{⊤}
-use Rattle.std.specs.BTreeMap.{is_at}
 use Rattle.std.specs.FinMap as map
-use Rattle.std.specs.FinMap.{get-empty}
-use Rattle.std.specs.Map.{lookup}
-use Rattle.zot_maps.proofs.Maps.{byte_order, get-entries, same_key}
-use Rattle.zot_digest.specs.ByteMap.{byte_cmp, map_of}
 use Rattle.std.proofs.lemmas.Slice.Eq.{bytes_eq-Decides}
 use Rattle.zot_digest.specs.Digest.{IsSound, is_sound}
 use Rattle.zot_model.specs.declared.call.Call.{Call}
@@ -17,7 +12,10 @@ use Rattle.zot_model.specs.declared.reply.Reply.{Reply}
 use Rattle.zot_model.specs.declared.reply.Reply.TheVariants.{BlobHead, BlobMade, Session}
 use Rattle.zot_model.specs.declared.span.Span.{Span}
 use Rattle.zot_model.specs.Pieces.{goes_on, keeps_limit}
-use Rattle.zot_model.specs.Plain.{Outcome, at_found, found_or, if_taken, plain, plain_finish, plain_patch, plain_state, stays, with_blob, with_sessions, with_upload}
+use Rattle.zot_model.specs.Outcomes.{Outcome, stays, with_blob}
+use Rattle.zot_model.specs.Plain.{plain}
+use Rattle.zot_model.specs.PlainBlobs.{found_or}
+use Rattle.zot_model.specs.PlainUploads.{at_found, if_taken, plain_finish, plain_patch, plain_state, with_sessions, with_upload}
 use Rattle.zot_model.specs.Refusals.{no_memory, not_built, refusal}
 use Rattle.zot_model.specs.State.{RepoState}
 use Rattle.zot_model.specs.Uploads.{OpenUpload, bytes_of, is_full, with_piece, without}
@@ -237,16 +235,16 @@ abbrev pub IsUnbuilt : Call → Type 0
 IsUnbuilt calls.Base = ⊤
 IsUnbuilt (calls.GetBlob digest) = ⊥
 IsUnbuilt (calls.HeadBlob digest) = ⊥
-IsUnbuilt (calls.DeleteBlob digest) = ⊤
+IsUnbuilt (calls.DeleteBlob digest) = ⊥
 IsUnbuilt (calls.Post mount digest body) = ⊥
 IsUnbuilt (calls.Patch id range body) = ⊥
 IsUnbuilt (calls.Finish id range digest body) = ⊥
 IsUnbuilt (calls.UploadState id) = ⊥
-IsUnbuilt (calls.PutManifest reference media body) = ⊤
-IsUnbuilt (calls.GetManifest reference) = ⊤
-IsUnbuilt (calls.HeadManifest reference) = ⊤
-IsUnbuilt (calls.DeleteManifest reference) = ⊤
-IsUnbuilt (calls.Tags n last) = ⊤
+IsUnbuilt (calls.PutManifest reference media body) = ⊥
+IsUnbuilt (calls.GetManifest reference) = ⊥
+IsUnbuilt (calls.HeadManifest reference) = ⊥
+IsUnbuilt (calls.DeleteManifest reference) = ⊥
+IsUnbuilt (calls.Tags n last) = ⊥
 IsUnbuilt (calls.Referrers digest filter) = ⊤
 
 plain_unbuilt : (moment : ℕ) (repo : RepoState) (call : Call) → IsUnbuilt call → plain moment repo call ≡ stays repo not_built
@@ -254,16 +252,16 @@ unfolding plain
 plain_unbuilt moment repo calls.Base h = refl
 plain_unbuilt moment repo (calls.GetBlob digest) h = absurd h
 plain_unbuilt moment repo (calls.HeadBlob digest) h = absurd h
-plain_unbuilt moment repo (calls.DeleteBlob digest) h = refl
+plain_unbuilt moment repo (calls.DeleteBlob digest) h = absurd h
 plain_unbuilt moment repo (calls.Post mount digest body) h = absurd h
 plain_unbuilt moment repo (calls.Patch id range body) h = absurd h
 plain_unbuilt moment repo (calls.Finish id range digest body) h = absurd h
 plain_unbuilt moment repo (calls.UploadState id) h = absurd h
-plain_unbuilt moment repo (calls.PutManifest reference media body) h = refl
-plain_unbuilt moment repo (calls.GetManifest reference) h = refl
-plain_unbuilt moment repo (calls.HeadManifest reference) h = refl
-plain_unbuilt moment repo (calls.DeleteManifest reference) h = refl
-plain_unbuilt moment repo (calls.Tags n last) h = refl
+plain_unbuilt moment repo (calls.PutManifest reference media body) h = absurd h
+plain_unbuilt moment repo (calls.GetManifest reference) h = absurd h
+plain_unbuilt moment repo (calls.HeadManifest reference) h = absurd h
+plain_unbuilt moment repo (calls.DeleteManifest reference) h = absurd h
+plain_unbuilt moment repo (calls.Tags n last) h = absurd h
 plain_unbuilt moment repo (calls.Referrers digest filter) h = refl
 
 pub unbuilt : (moment : ℕ) (repo : RepoState) (call : Call) (reply : Reply) → IsUnbuilt call → reply ≡ not_built → MayGive moment repo call reply repo
@@ -272,12 +270,3 @@ unbuilt moment repo call reply h is = is_plain moment repo repo call reply (stay
 -- a call is one that isn't built
 pub as_unbuilt : (call other : Call) → call ≡ other → IsUnbuilt other → IsUnbuilt call
 as_unbuilt call other is h = subst IsUnbuilt (sym is) h
-
--- ---- a repository that isn't fresh
-
--- a tree of no blobs has none
-pub blobs_none : {X : Type 0} (es : List (List ℕ × X)) → map_of es ≡ map.empty → length es ≡ 0
-blobs_none [] h = refl
-blobs_none (e ∷ es) h =
-    let has = get-entries byte_order (e ∷ es) e.0 ∙ ap (λ b. cond b (Some e.1) (lookup (is_at (byte_cmp e.0)) es)) (same_key byte_order e.0) in
-    absurd (cc (sym has ∙ ap (λ m. map.get m e.0) h ∙ get-empty byte_cmp e.0))

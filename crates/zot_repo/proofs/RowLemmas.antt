@@ -20,7 +20,7 @@ use Rattle.zot_model.specs.History.{Enters, Step, entry_of}
 use Rattle.zot_model.specs.Plain.{GoesWithoutFault, MayAnswer}
 use Rattle.zot_model.specs.Refusals.{no_memory}
 use Rattle.zot_repo.proofs.ReplyLemmas.{lacks}
-use Rattle.zot_model.specs.State.{AreSame, Becomes, HaveSameRepos, RepoState, RowState, fresh, repo_at}
+use Rattle.zot_model.specs.State.{AreSame, Becomes, RepoState, RowState, fresh, repo_at}
 use Rattle.zot_repo.specs.Replies.{MayGive}
 use Rattle.zot_repo.specs.Table.{HasName, KeepsNames, Table, state_of, with_repo}
 

@@ -1,8 +1,11 @@
--- How a request on an upload is refused.
+-- How a request on an upload or a manifest is refused.
 use Rattle.std.specs.Prelude.{ℕ}
-use Rattle.zot_model.specs.declared.code.Code.TheVariants.{BlobUploadUnknown, DigestInvalid, SizeInvalid, TooManyRequests}
+use Rattle.zot_model.specs.declared.code.Code.TheVariants.{BlobUploadUnknown, DigestInvalid, ManifestBlobUnknown, ManifestInvalid, SizeInvalid, TooManyRequests}
+use Rattle.zot_model.specs.declared.detail.Detail.TheVariants.{Missing}
 use Rattle.zot_model.specs.declared.reply.Reply.{Reply}
-use Rattle.zot_model.specs.Refusals.{no_memory, refusal, upload_invalid}
+use Rattle.zot_model.specs.Refusals.{no_memory, refusal, refusal_with, upload_invalid}
+use Rattle.zot_manifests.specs.declared.check_error.CheckError.{CheckError}
+use Rattle.zot_manifests.specs.declared.check_error.CheckError.TheVariants as checks
 use Rattle.zot_uploads.specs.declared.upload_error.UploadError.{UploadError}
 use Rattle.zot_uploads.specs.declared.upload_error.UploadError.TheVariants as errors
 
@@ -19,3 +22,11 @@ upload_refusal id errors.NoMemory = no_memory
 abbrev pub new_refusal : UploadError → Reply
 new_refusal errors.NoMemory = no_memory
 new_refusal _ = refusal TooManyRequests
+
+-- the refusal of a manifest
+abbrev pub put_refusal : CheckError → Reply
+put_refusal checks.Media = refusal ManifestInvalid
+put_refusal checks.Unread = refusal ManifestInvalid
+put_refusal (checks.Digest digest) = refusal DigestInvalid
+put_refusal (checks.Missing digest) = refusal_with ManifestBlobUnknown (Missing digest)
+put_refusal checks.NoMemory = no_memory

@@ -5,8 +5,15 @@ use Rattle.zot_digest.specs.Digest.{IsSound}
 use Rattle.zot_model.specs.declared.call.Call.{Call}
 use Rattle.zot_model.specs.declared.code.Code.TheVariants.{BlobUploadUnknown, DigestInvalid}
 use Rattle.zot_model.specs.declared.reply.Reply.{Reply}
-use Rattle.zot_model.specs.declared.reply.Reply.TheVariants.{Blob, BlobMade, Session}
-use Rattle.zot_model.specs.Plain.{IsPlain, LacksMemory, found_or, with_blob, with_sessions}
+use Rattle.zot_model.specs.declared.reply.Reply.TheVariants.{Blob, BlobMade, ManifestMade, Session}
+use Rattle.zot_model.specs.Manifests.{Found, with_tag}
+use Rattle.zot_model.specs.Outcomes.{with_blob}
+use Rattle.zot_model.specs.Plain.{IsPlain, LacksMemory}
+use Rattle.zot_model.specs.PlainBlobs.{found_or}
+use Rattle.zot_model.specs.PlainUploads.{with_sessions}
+use Rattle.zot_repo.specs.declared.found_manifest.FoundManifest.{FoundManifest}
+use Rattle.zot_manifests.specs.declared.checked.Checked.{Checked}
+use Rattle.zot_media.specs.References.{subject_digest}
 use Rattle.zot_model.specs.Refusals.{no_memory, refusal}
 use Rattle.zot_model.specs.State.{RepoState, Stored}
 use Rattle.zot_model.specs.Uploads.{OpenUpload, UploadTable, without}
@@ -40,3 +47,33 @@ state_reply (Some id) sessions = found_reply id (map.get sessions.uploads id)
 abbrev pub EndsWith : ℕ → RepoState → ℕ → List ℕ → List ℕ → Reply → RepoState → Type 0
 EndsWith moment old id digest bytes reply new =
     ((reply ≡ BlobMade digest) × (new ≡ with_blob moment (with_sessions old (without old.sessions id)) digest bytes)) ⊎ ((reply ≡ no_memory) × (new ≡ old))
+
+-- ---- manifests
+
+-- a manifest that was found, with its bytes
+abbrev pub found_manifest : FoundManifest → Found
+found_manifest found = record { digest = found.digest; media = found.media; bytes = found.bytes.now }
+
+-- the repository with a manifest that was checked, whose bytes are a blob already
+abbrev pub with_checked : ℕ → RepoState → Checked → RepoState
+with_checked moment repo checked = record {
+  known = repo.known;
+  blobs = repo.blobs;
+  manifests = map.insert repo.manifests checked.digest (record { media = checked.media; arrived = moment });
+  tags = with_tag moment repo.tags checked.tag checked.digest;
+  sessions = repo.sessions;
+}
+
+-- the reply to a manifest that was stored
+abbrev pub made_reply : Checked → Reply
+made_reply checked = ManifestMade checked.digest (subject_digest checked.reading.subject)
+
+-- the manifest was stored, or memory ran out
+abbrev pub StoresChecked : ℕ → RepoState → Checked → Reply → RepoState → Type 0
+StoresChecked moment old checked reply new = ((reply ≡ made_reply checked) × (new ≡ with_checked moment old checked)) ⊎ ((reply ≡ no_memory) × (new ≡ old))
+
+-- the manifest and its bytes were stored, or memory ran out, and then its bytes may be left as a blob
+abbrev pub StoresManifest : ℕ → RepoState → Checked → List ℕ → Reply → RepoState → Type 0
+StoresManifest moment old checked body reply new =
+    ((reply ≡ made_reply checked) × (new ≡ with_checked moment (with_blob moment old checked.digest body) checked))
+    ⊎ ((reply ≡ no_memory) × ((new ≡ old) ⊎ (new ≡ with_blob moment old checked.digest body)))

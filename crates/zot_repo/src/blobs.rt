@@ -1,24 +1,29 @@
 //! What is answered to requests on blobs.
-ghost use Rattle.std.specs.Prelude.{◌≡◌, OnOk, OnErr, length, Option, option_copied};
+ghost use Rattle.std.specs.Prelude.{◌≡◌, ℕ, OnOk, OnErr, length, Option};
 ghost use Rattle.std.specs.FinMap as map;
-ghost use Rattle.zot_model.specs.Plain.{found_or, with_blob};
+ghost use Rattle.zot_model.specs.Manifests.{is_needed};
+ghost use Rattle.zot_model.specs.Outcomes.{with_blob};
+ghost use Rattle.zot_model.specs.PlainBlobs.{found_or};
 ghost use Rattle.zot_model.specs.declared.call.Call.TheVariants as calls;
 ghost use Rattle.zot_model.specs.declared.mount.Mount.{Mount};
 ghost use Rattle.zot_model.specs.declared.reply.Reply.TheVariants.{BlobHead};
 ghost use Rattle.zot_repo.specs.Replies.{GivesBlob, MayGive, TakesBlob};
+ghost use Rattle.zot_repo.specs.Repository.{rereads};
 
 use crate::repository::Repository;
 use crate::stored_blob::StoredBlob;
 use std::alloc::{AllocError, Global};
 use zot_digest::{Bytes, Digest, digest_of};
-use zot_model::Reply;
+use zot_manifests::{Checked, Manifests};
+use zot_media::read_stored;
+use zot_model::{Methods, Reply};
 
 impl Repository {
     /// The reply to a GET of a blob: a copy of its bytes.
     pub fn get_blob(&self, alloc: Global, digest: &Digest) -> Reply
         ensures { GivesBlob (map.get self.now.blobs digest.now) digest.now result }
     {
-        let Some(blob) = self.blob(digest) else {
+        let Some(blob) = self.blobs.get(digest) else {
             return Reply::blob_unknown();
         };
         match blob.bytes().copy(alloc) {
@@ -34,13 +39,34 @@ impl Repository {
     pub fn head_blob(&self, digest: &Digest) -> Reply
         ensures { result ≡ found_or (λ stored. BlobHead digest.now (length stored.bytes)) (map.get self.now.blobs digest.now) }
     {
-        match self.blob(digest) {
+        match self.blobs.get(digest) {
             Some(blob) => Reply::BlobHead {
                 digest: *digest,
                 size: blob.bytes().as_slice().len() as u64,
             },
             None => Reply::blob_unknown(),
         }
+    }
+
+    /// The reply to a DELETE of a blob, which goes unless it is a manifest or some manifest refers to it. Takes no memory.
+    pub fn delete_blob(&mut self, digest: &Digest) -> Reply
+        ensures { (moment : ℕ) → MayGive moment self.old (calls.DeleteBlob digest.now) result self.new }
+    {
+        if self.blobs.get(digest).is_none() {
+            return Reply::blob_unknown();
+        }
+        if self.is_needed(digest) {
+            return Reply::not_allowed(Methods::Read);
+        }
+        self.blobs.remove(digest);
+        Reply::Deleted
+    }
+
+    // Whether a blob is a manifest, or some manifest refers to it.
+    fn is_needed(&self, digest: &Digest) -> bool
+        ensures { result ≡ is_needed self.now digest.now }
+    {
+        self.manifests.manifest(digest).is_some() || self.manifests.refers(digest)
     }
 
     /// The reply to a POST, whatever blob may be taken over: of a blob with its digest, or of a new upload.
@@ -72,15 +98,8 @@ impl Repository {
         }
     }
 
-    // The blob of a digest.
-    fn blob(&self, digest: &Digest) -> Option<&StoredBlob>
-        ensures { option_copied result ≡ map.get self.now.blobs digest.now }
-    {
-        self.blobs.get(digest)
-    }
-
-    // Stores a copy of a blob. After an `Err` the repository is as it was.
-    fn put_copy(
+    /// Stores a copy of a blob. After an `Err` the repository is as it was.
+    pub fn put_copy(
         &mut self,
         alloc: Global,
         digest: &Digest,
@@ -91,16 +110,49 @@ impl Repository {
         ensures err { OnErr result (self.new ≡ self.old) }
     {
         let bytes = body.copy(alloc)?;
-        self.put(*digest, bytes, moment)
+        self.put(alloc, *digest, bytes, moment)
     }
 
-    /// Stores a blob that arrives at the moment, which makes the repository known. After an `Err` the repository is as it was.
-    pub fn put(&mut self, digest: Digest, bytes: Bytes, moment: u64) -> Result<(), AllocError>
+    /// Stores a blob that arrives at the moment, which makes the repository known. A manifest of the digest is read again. After an `Err` the repository is as it was.
+    pub fn put(
+        &mut self,
+        alloc: Global,
+        digest: Digest,
+        bytes: Bytes,
+        moment: u64,
+    ) -> Result<(), AllocError>
         ensures ok { OnOk result (self.new ≡ with_blob moment self.old digest bytes) }
         ensures err { OnErr result (self.new ≡ self.old) }
     {
-        self.blobs.insert(digest, StoredBlob::new(bytes, moment))?;
+        reread(&mut self.manifests, alloc, &digest, bytes.as_slice())?;
+        self.blobs.set(digest, StoredBlob::new(bytes, moment))?;
         self.known = true;
         Ok(())
     }
+}
+
+// Reads the manifest of a digest again, if there is one, from these bytes. After an `Err` the table is as it was.
+fn reread(
+    manifests: &mut Manifests,
+    alloc: Global,
+    digest: &Digest,
+    bytes: &[u8],
+) -> Result<(), AllocError>
+    ensures ok { OnOk result (manifests.new ≡ rereads manifests.old digest.now bytes.now) }
+    ensures err { OnErr result (manifests.new ≡ manifests.old) }
+{
+    let Some(kept) = manifests.manifest(digest) else {
+        return Ok(());
+    };
+    let media = kept.media;
+    let arrived = kept.arrived;
+    let reading = read_stored(alloc, media, bytes)?;
+    let checked = Checked {
+        digest: *digest,
+        media,
+        tag: None,
+        reading,
+        size: bytes.len() as u64,
+    };
+    manifests.put(alloc, checked, arrived)
 }

@@ -4,7 +4,10 @@
 //! request and the reply are a step of a legal history, from what the table stood for to what it stands for then.
 #![tactic(auto)]
 
+mod blob_map;
 mod blobs;
+mod found_manifest;
+mod manifests;
 mod repository;
 mod shard;
 mod stored_blob;

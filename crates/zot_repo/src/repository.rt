@@ -3,31 +3,33 @@ ghost use Rattle.std.specs.Prelude.{◌≡◌, ◌≢◌, false, true};
 ghost use Rattle.zot_model.specs.State.{fresh};
 ghost use Rattle.zot_repo.specs.Replies.{MayGive};
 
-use crate::stored_blob::StoredBlob;
+use crate::blob_map::BlobMap;
 use std::alloc::Global;
-use std::collections::BTreeMap;
 use std::marker::Model;
-use zot_digest::Digest;
+use zot_manifests::Manifests;
 use zot_model::{Call, Reply};
 use zot_uploads::Uploads;
 
-/// A repository: whether it is known, its blobs in a tree by their digests, and its upload sessions. Contracts see the plain repository.
+/// A repository: whether it is known, its blobs, its manifests and tags, and its upload sessions. Contracts see the plain repository. What the table says of a manifest is what its bytes say.
 #[derive(Drop)]
 pub struct Repository {
     pub known: bool,
-    pub blobs: BTreeMap<Digest, StoredBlob>,
+    pub blobs: BlobMap,
+    pub manifests: Manifests,
     pub sessions: Uploads,
 }
 
 impl Model for Repository {
     ghost use Rattle.zot_model.specs.State.{RepoState, repo_code};
-    ghost use Rattle.zot_repo.specs.Repository.{repo_of};
+    ghost use Rattle.zot_repo.specs.Repository.{AreRead, repo_of};
 
     ghost Value = { RepoState };
 
     ghost coded = { repo_code };
 
-    ghost view = { λ r. repo_of r.known r.blobs.entries r.sessions };
+    ghost view = { λ r. repo_of r.known r.blobs r.manifests r.sessions };
+
+    ghost invariant = { λ r. AreRead r.manifests.manifests r.blobs };
 }
 
 impl Repository {
@@ -37,7 +39,8 @@ impl Repository {
     {
         Repository {
             known: false,
-            blobs: BTreeMap::new(alloc),
+            blobs: BlobMap::new(alloc),
+            manifests: Manifests::new(alloc),
             sessions: Uploads::new(alloc),
         }
     }
@@ -47,16 +50,26 @@ impl Repository {
         ensures fresh { result ≡ true → self.now ≡ fresh }
         ensures other { result ≡ false → self.now ≢ fresh }
     {
-        !self.known && self.blobs.is_empty() && self.sessions.is_fresh()
+        if self.known {
+            return false;
+        }
+        if !self.blobs.is_empty() {
+            return false;
+        }
+        if !self.manifests.is_empty() {
+            return false;
+        }
+        self.sessions.is_fresh()
     }
 
-    /// Answers a call at a moment, as the plain registry does by the first case that fits, or for want of memory, after which the repository is as it was.
+    /// Answers a call at a moment, as the plain registry does by the first case that fits, or for want of memory.
     pub fn reply_to(&mut self, alloc: Global, call: &Call, moment: u64) -> Reply
         ensures { MayGive moment self.old call.now result self.new }
     {
         match call {
             Call::GetBlob(digest) => self.get_blob(alloc, digest),
             Call::HeadBlob(digest) => self.head_blob(digest),
+            Call::DeleteBlob(digest) => self.delete_blob(digest),
             Call::Post {
                 mount: _,
                 digest,
@@ -70,14 +83,16 @@ impl Repository {
                 digest,
                 body,
             } => self.finish(alloc, *id, *range, digest, body, moment),
-            Call::Base
-            | Call::DeleteBlob(_)
-            | Call::PutManifest { .. }
-            | Call::GetManifest(_)
-            | Call::HeadManifest(_)
-            | Call::DeleteManifest(_)
-            | Call::Tags { .. }
-            | Call::Referrers { .. } => Reply::not_built(),
+            Call::PutManifest {
+                reference,
+                media,
+                body,
+            } => self.put_manifest(alloc, reference, *media, body, moment),
+            Call::GetManifest(reference) => self.get_manifest(alloc, reference, moment),
+            Call::HeadManifest(reference) => self.head_manifest(reference),
+            Call::DeleteManifest(reference) => self.delete_manifest(reference),
+            Call::Tags { n, last } => self.list_tags(alloc, *n, last),
+            Call::Base | Call::Referrers { .. } => Reply::not_built(),
         }
     }
 }

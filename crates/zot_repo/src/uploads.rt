@@ -84,16 +84,23 @@ impl Repository {
             .sessions
             .whole(alloc, id, range, body.as_slice(), digest)
         {
-            Ok(bytes) => self.end_with(id, digest, Bytes::new(bytes), moment),
+            Ok(bytes) => self.end_with(alloc, id, digest, Bytes::new(bytes), moment),
             Err(error) => refused(id, error),
         }
     }
 
     // Stores the bytes of an upload as a blob and ends the upload.
-    fn end_with(&mut self, id: UploadId, digest: &Digest, bytes: Bytes, moment: u64) -> Reply
+    fn end_with(
+        &mut self,
+        alloc: Global,
+        id: UploadId,
+        digest: &Digest,
+        bytes: Bytes,
+        moment: u64,
+    ) -> Reply
         ensures { EndsWith moment self.old id digest.now bytes result self.new }
     {
-        match self.put(*digest, bytes, moment) {
+        match self.put(alloc, *digest, bytes, moment) {
             Ok(()) => {
                 self.sessions.end(id);
                 Reply::BlobMade { digest: *digest }

@@ -12,7 +12,7 @@ returns-in_default c = unnamed_patch c.args.self.now c.args.id c.args.range c.ar
 
 pub returns : goal.returns
 returns c moment =
-    let repo = λ (s : UploadTable). repo_of c.self.inside.known c.self.inside.blobs.entries s in
+    let repo = λ (s : UploadTable). repo_of c.self.inside.known c.self.inside.blobs c.self.inside.manifests s in
     let same = ap (λ (id : Option ℕ). calls.Patch id c.args.range c.as_slice.result.now) (sym c.in-Some.is) ∙ ap (λ (body : List ℕ). calls.Patch c.args.id c.args.range body) c.as_slice.ensures in
     at_call moment c.args.self.now (repo c.self.inside.sessions) (repo c.append.new.self) (calls.Patch c.args.id c.args.range c.args.body.now) (calls.Patch (Some c.in-Some.id) c.args.range c.as_slice.result.now)
     c.match-append.result c.self.view_is same

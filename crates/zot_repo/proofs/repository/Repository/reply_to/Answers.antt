@@ -22,12 +22,6 @@ returns-in-Base c =
     unbuilt c.args.moment c.args.self.now c.args.call.now c.not_built.result
     (elim c.in-Base.is [
       | inl h ↦ as_unbuilt c.args.call.now _ h tt
-      | inr (inl h) ↦ as_unbuilt c.args.call.now _ h.1 tt
-      | inr (inr (inl h)) ↦ as_unbuilt c.args.call.now _ h.3 tt
-      | inr (inr (inr (inl h))) ↦ as_unbuilt c.args.call.now _ h.1 tt
-      | inr (inr (inr (inr (inl h)))) ↦ as_unbuilt c.args.call.now _ h.1 tt
-      | inr (inr (inr (inr (inr (inl h))))) ↦ as_unbuilt c.args.call.now _ h.1 tt
-      | inr (inr (inr (inr (inr (inr (inl h)))))) ↦ as_unbuilt c.args.call.now _ h.2 tt
-      | inr (inr (inr (inr (inr (inr (inr h)))))) ↦ as_unbuilt c.args.call.now _ h.2 tt
+      | inr h ↦ as_unbuilt c.args.call.now _ h.2 tt
     ])
     c.not_built.ensures

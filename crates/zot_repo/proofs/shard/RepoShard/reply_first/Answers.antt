@@ -1,6 +1,6 @@
-use Rattle.std.proofs.Common.{◌≡◌, unwrap_or, ap, sym, subst, ◌∙◌}
+use Rattle.std.proofs.Common.{unwrap_or, ap, sym, subst, ◌∙◌}
 use Rattle.zot_model.specs.Plain.{MayAnswer}
-use Rattle.zot_model.specs.State.{fresh, repo_at}
+use Rattle.zot_model.specs.State.{fresh}
 use Rattle.zot_repo.proofs.RowLemmas.{answers_itself, answers_lacking, answers_with, names_grown, names_itself}
 use Rattle.zot_repo.specs.Table.{KeepsNames, Table, state_of}
 use Rattle.zot_repo.proofs.shard.RepoShard.reply_first.Goals as goal
