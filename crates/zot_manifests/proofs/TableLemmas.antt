@@ -14,7 +14,7 @@ use Rattle.std.specs.declared.cmp.Ordering.TheVariants.{Equal, Less, Greater}
 use Rattle.std.proofs.lemmas.Bool.{true≢false}
 use Rattle.zot_digest.specs.ByteMap.{ByteMap, byte_cmp, map_of}
 use Rattle.zot_manifests.proofs.IndexLemmas.{any_listed}
-use Rattle.zot_manifests.specs.Index.{KeepsListed, ListsAll, lists, set_has}
+use Rattle.zot_manifests.specs.Index.{KeepsListed, ListsAll, ListsNamed, RefersTo, lists, set_has}
 use Rattle.zot_manifests.specs.Table.{is_referred, plain_manifest, plain_manifests, put_back, says}
 use Rattle.zot_manifests.specs.declared.kept.Kept.{Kept}
 use Rattle.zot_maps.proofs.Maps.{byte_order, get_elsewhere, get_here, removed_elsewhere, removed_here, same_by_key, same_key, same_map, tied_keys}
@@ -123,27 +123,28 @@ plain_empty = same_map byte_order (plain_manifests finite.empty) finite.empty (�
 same_some : (x y : Kept) → Some x ≡ Some y → x ≡ y
 same_some x y h = ap (λ o. unwrap_or o x) h
 
-pub lists_none : (manifests : ByteMap Kept) (sets : BTreeMap (List ℕ) (BTreeSet (List ℕ))) → manifests ≡ finite.empty → ListsAll manifests sets
-lists_none manifests sets is digest referred kept has refers_it = cc (sym has ∙ ap (λ m. finite.get m digest) is ∙ get-empty byte_cmp digest)
+module _ (Names : Kept → List ℕ → Type 0) where
+  pub lists_none : (manifests : ByteMap Kept) (sets : BTreeMap (List ℕ) (BTreeSet (List ℕ))) → manifests ≡ finite.empty → ListsNamed Names manifests sets
+  lists_none manifests sets is digest named kept has names_it = cc (sym has ∙ ap (λ m. finite.get m digest) is ∙ get-empty byte_cmp digest)
 
-pub lists_kept : (manifests : ByteMap Kept) (old new : BTreeMap (List ℕ) (BTreeSet (List ℕ))) → KeepsListed old new → ListsAll manifests old → ListsAll manifests new
-lists_kept manifests old new keeps all digest referred kept has refers_it = keeps referred digest (all digest referred kept has refers_it)
+  pub lists_kept : (manifests : ByteMap Kept) (old new : BTreeMap (List ℕ) (BTreeSet (List ℕ))) → KeepsListed old new → ListsNamed Names manifests old → ListsNamed Names manifests new
+  lists_kept manifests old new keeps all digest named kept has names_it = keeps named digest (all digest named kept has names_it)
 
-pub lists_insert : (old new : ByteMap Kept) (sets : BTreeMap (List ℕ) (BTreeSet (List ℕ))) (digest : List ℕ) (kept : Kept) → new ≡ finite.insert old digest kept → ListsAll old sets
-    → ((referred : List ℕ) → refers kept.reading referred ≡ true → lists sets referred digest ≡ true) → ListsAll new sets
-lists_insert old new sets digest kept is all own other referred found has refers_it =
-    split (eq_by_cmp byte_cmp other digest) refl (sym (get-insert nat_list_cmp_total old digest kept other) ∙ ap (λ m. finite.get m other) (sym is) ∙ has) where
-      split : (b : Bool) → eq_by_cmp byte_cmp other digest ≡ b → cond b (Some kept) (finite.get old other) ≡ Some found → lists sets referred other ≡ true
-      split true tied h = ap (lists sets referred) (tied_keys byte_order other digest tied) ∙ own referred (ap (λ (k : Kept). refers k.reading referred) (same_some kept found h) ∙ refers_it)
-      split false apart h = all other referred found h refers_it
+  pub lists_insert : (old new : ByteMap Kept) (sets : BTreeMap (List ℕ) (BTreeSet (List ℕ))) (digest : List ℕ) (kept : Kept) → new ≡ finite.insert old digest kept → ListsNamed Names old sets
+      → ((named : List ℕ) → Names kept named → lists sets named digest ≡ true) → ListsNamed Names new sets
+  lists_insert old new sets digest kept is all own other named found has names_it =
+      split (eq_by_cmp byte_cmp other digest) refl (sym (get-insert nat_list_cmp_total old digest kept other) ∙ ap (λ m. finite.get m other) (sym is) ∙ has) where
+        split : (b : Bool) → eq_by_cmp byte_cmp other digest ≡ b → cond b (Some kept) (finite.get old other) ≡ Some found → lists sets named other ≡ true
+        split true tied h = ap (lists sets named) (tied_keys byte_order other digest tied) ∙ own named (subst (λ (k : Kept). Names k named) (sym (same_some kept found h)) names_it)
+        split false apart h = all other named found h names_it
 
-pub lists_remove : (old new : ByteMap Kept) (before after : BTreeMap (List ℕ) (BTreeSet (List ℕ))) (digest : List ℕ) → new ≡ finite.remove old digest → ListsAll old before
-    → ((referred other : List ℕ) → other ≢ digest → lists before referred other ≡ true → lists after referred other ≡ true) → ListsAll new after
-lists_remove old new before after digest is all others other referred found has refers_it =
-    split (eq_by_cmp byte_cmp other digest) refl (sym (get-remove nat_list_cmp_total old digest other) ∙ ap (λ m. finite.get m other) (sym is) ∙ has) where
-      split : (b : Bool) → eq_by_cmp byte_cmp other digest ≡ b → cond b None (finite.get old other) ≡ Some found → lists after referred other ≡ true
-      split true tied h = cc h
-      split false apart h = others referred other (λ same. true≢false (sym (same_key byte_order digest) ∙ ap (λ k. eq_by_cmp byte_cmp k digest) (sym same) ∙ apart)) (all other referred found h refers_it)
+  pub lists_remove : (old new : ByteMap Kept) (before after : BTreeMap (List ℕ) (BTreeSet (List ℕ))) (digest : List ℕ) → new ≡ finite.remove old digest → ListsNamed Names old before
+      → ((named other : List ℕ) → other ≢ digest → lists before named other ≡ true → lists after named other ≡ true) → ListsNamed Names new after
+  lists_remove old new before after digest is all others other named found has names_it =
+      split (eq_by_cmp byte_cmp other digest) refl (sym (get-remove nat_list_cmp_total old digest other) ∙ ap (λ m. finite.get m other) (sym is) ∙ has) where
+        split : (b : Bool) → eq_by_cmp byte_cmp other digest ≡ b → cond b None (finite.get old other) ≡ Some found → lists after named other ≡ true
+        split true tied h = cc h
+        split false apart h = others named other (λ same. true≢false (sym (same_key byte_order digest) ∙ ap (λ k. eq_by_cmp byte_cmp k digest) (sym same) ∙ apart)) (all other named found h names_it)
 
 -- what was under a digest before is there again
 pub put_back_is : (old mid : ByteMap Kept) (digest : List ℕ) (kept : Kept) (before : Option Kept) → mid ≡ finite.insert old digest kept → before ≡ finite.get old digest → put_back mid digest before ≡ old
@@ -159,9 +160,9 @@ pub lists_put : {X E : Type 0} (P Q : Type 0) (result : Result X E) (old mid new
     → OnOk result (P × (new ≡ mid)) → OnErr result (Q × (new ≡ put_back mid digest before)) → mid ≡ finite.insert old digest kept → before ≡ finite.get old digest
     → ListsAll old before_sets → KeepsListed before_sets sets → ((referred : List ℕ) → refers kept.reading referred ≡ true → lists sets referred digest ≡ true) → ListsAll new sets
 lists_put P Q (Ok x) old mid new before_sets sets digest kept before ok err is was all keeps own =
-    lists_insert old new sets digest kept (ok.1 ∙ is) (lists_kept old before_sets sets keeps all) own
+    lists_insert RefersTo old new sets digest kept (ok.1 ∙ is) (lists_kept RefersTo old before_sets sets keeps all) own
 lists_put P Q (Err e) old mid new before_sets sets digest kept before ok err is was all keeps own =
-    subst (λ (m : ByteMap Kept). ListsAll m sets) (sym (err.1 ∙ put_back_is old mid digest kept before is was)) (lists_kept old before_sets sets keeps all)
+    subst (λ (m : ByteMap Kept). ListsAll m sets) (sym (err.1 ∙ put_back_is old mid digest kept before is was)) (lists_kept RefersTo old before_sets sets keeps all)
 
 pub insert_has : (old mid : ByteMap Kept) (digest : List ℕ) (kept : Kept) → mid ≡ finite.insert old digest kept → is_some (finite.get mid digest) ≡ true
 insert_has old mid digest kept is = ap (λ m. is_some (finite.get m digest)) is ∙ ap is_some (get_here byte_order old digest kept)

@@ -20,6 +20,14 @@ lists sets referred digest = set_has (get byte_cmp sets referred) digest
 abbrev pub KeepsListed : BTreeMap (List ℕ) (BTreeSet (List ℕ)) → BTreeMap (List ℕ) (BTreeSet (List ℕ)) → Type 0
 KeepsListed old new = (referred digest : List ℕ) → lists old referred digest ≡ true → lists new referred digest ≡ true
 
--- each manifest is listed under each digest that it refers to. More may be listed: what is found under a digest is looked at
+-- each manifest is listed under each digest that it names in this way. More may be listed: what is found under a digest is looked at
+abbrev pub ListsNamed : (Kept → List ℕ → Type 0) → ByteMap Kept → BTreeMap (List ℕ) (BTreeSet (List ℕ)) → Type 0
+ListsNamed Names manifests sets = (digest named : List ℕ) (kept : Kept) → finite.get manifests digest ≡ Some kept → Names kept named → lists sets named digest ≡ true
+
+-- a kept manifest refers to a digest
+abbrev pub RefersTo : Kept → List ℕ → Type 0
+RefersTo kept digest = refers kept.reading digest ≡ true
+
+-- each manifest is listed under each digest that it refers to
 abbrev pub ListsAll : ByteMap Kept → BTreeMap (List ℕ) (BTreeSet (List ℕ)) → Type 0
-ListsAll manifests sets = (digest referred : List ℕ) (kept : Kept) → finite.get manifests digest ≡ Some kept → refers kept.reading referred ≡ true → lists sets referred digest ≡ true
+ListsAll manifests sets = ListsNamed RefersTo manifests sets

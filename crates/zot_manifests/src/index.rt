@@ -64,7 +64,12 @@ impl Index {
     }
 
     /// Lists a manifest under a digest. After an `Err` what was listed is listed still.
-    pub fn list(&mut self, alloc: Global, referred: Digest, digest: Digest) -> Result<(), AllocError>
+    pub fn list(
+        &mut self,
+        alloc: Global,
+        referred: Digest,
+        digest: Digest,
+    ) -> Result<(), AllocError>
         ensures keeps { KeepsListed self.old.sets self.new.sets }
         ensures ok { OnOk result (lists self.new.sets referred digest ≡ true) }
     {

@@ -64,7 +64,7 @@ module _ {X : Type 0} where
   keys_ordered m = ordered (finite.entries m) (entries_sorted m)
 
   -- each entry is found under its key
-  abbrev AllFound : List (List ℕ × X) → List (List ℕ × X) → Type 0
+  abbrev pub AllFound : List (List ℕ × X) → List (List ℕ × X) → Type 0
   AllFound all es = AllByRecursion (λ e. find byte_cmp e.0 all ≡ Some e.1) es
 
   found_later : (e : List ℕ × X) (all es : List (List ℕ × X)) → AllByRecursion (λ y. byte_cmp e.0 y ≡ Less) (map (λ x. x.0) es) → AllFound all es → AllFound (e ∷ all) es
@@ -72,7 +72,7 @@ module _ {X : Type 0} where
   found_later e all (x ∷ es) below h =
       (ap (λ b. cond b (Some e.1) (find byte_cmp x.0 all)) (apart e.0 x.0 below.0) ∙ h.0, found_later e all es below.1 h.1)
 
-  all_found : (es : List (List ℕ × X)) → IsStrictlySortedBy byte_cmp (map (λ e. e.0) es) → AllFound es es
+  pub all_found : (es : List (List ℕ × X)) → IsStrictlySortedBy byte_cmp (map (λ e. e.0) es) → AllFound es es
   unfolding IsStrictlySortedBy
   all_found [] h = tt
   all_found (e ∷ es) h = (ap (λ b. cond b (Some e.1) (find byte_cmp e.0 es)) (same_key byte_order e.0), found_later e es es h.0 (all_found es h.1))

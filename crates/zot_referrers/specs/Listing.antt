@@ -5,7 +5,7 @@ use Rattle.std.specs.BTreeSet.{BTreeSet}
 use Rattle.std.specs.FinMap as finite
 use Rattle.serde_json.specs.Data.{Data, Items, array, no_members, number, object, put, string, unsigned}
 use Rattle.zot_digest.specs.ByteMap.{ByteMap}
-use Rattle.zot_manifests.specs.Index.{lists}
+use Rattle.zot_manifests.specs.Index.{ListsNamed}
 use Rattle.zot_manifests.specs.declared.kept.Kept.{Kept}
 use Rattle.zot_media.specs.Media.{media_text}
 use Rattle.zot_media.specs.References.{subject_digest}
@@ -33,9 +33,13 @@ found_as sizes subject wanted digest (Some kept) = listed_as subject wanted (pus
 abbrev pub found_in : (List ℕ → Option ℕ) → ByteMap Kept → List ℕ → Option (List ℕ) → List ℕ → List Referrer
 found_in sizes manifests subject wanted digest = found_as sizes subject wanted digest (finite.get manifests digest)
 
+-- a kept manifest says something of the one of a digest
+abbrev pub HasSubject : Kept → List ℕ → Type 0
+HasSubject kept subject = subject_digest kept.reading.subject ≡ Some subject
+
 -- each manifest that has a subject is listed under it. More may be listed: what is found under a digest is looked at
 abbrev pub ListsSubjects : ByteMap Kept → BTreeMap (List ℕ) (BTreeSet (List ℕ)) → Type 0
-ListsSubjects manifests sets = (digest subject : List ℕ) (kept : Kept) → finite.get manifests digest ≡ Some kept → subject_digest kept.reading.subject ≡ Some subject → lists sets subject digest ≡ true
+ListsSubjects manifests sets = ListsNamed HasSubject manifests sets
 
 -- the index with these descriptors
 unfoldable pub listing_value : Items → Data

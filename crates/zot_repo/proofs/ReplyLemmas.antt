@@ -9,14 +9,14 @@ use Rattle.zot_model.specs.declared.call.Call.TheVariants as calls
 use Rattle.zot_model.specs.declared.code.Code.TheVariants.{TooManyRequests}
 use Rattle.zot_model.specs.declared.mount.Mount.{Mount}
 use Rattle.zot_model.specs.declared.reply.Reply.{Reply}
-use Rattle.zot_model.specs.declared.reply.Reply.TheVariants.{BlobHead, BlobMade, Session}
+use Rattle.zot_model.specs.declared.reply.Reply.TheVariants.{Base, BlobHead, BlobMade, Session}
 use Rattle.zot_model.specs.declared.span.Span.{Span}
 use Rattle.zot_model.specs.Pieces.{goes_on, keeps_limit}
 use Rattle.zot_model.specs.Outcomes.{Outcome, stays, with_blob}
 use Rattle.zot_model.specs.Plain.{plain}
 use Rattle.zot_model.specs.PlainBlobs.{found_or}
 use Rattle.zot_model.specs.PlainUploads.{at_found, if_taken, plain_finish, plain_patch, plain_state, with_sessions, with_upload}
-use Rattle.zot_model.specs.Refusals.{no_memory, not_built, refusal}
+use Rattle.zot_model.specs.Refusals.{no_memory, refusal}
 use Rattle.zot_model.specs.State.{RepoState}
 use Rattle.zot_model.specs.Uploads.{OpenUpload, bytes_of, is_full, with_piece, without}
 use Rattle.zot_repo.specs.Refusals.{new_refusal, upload_refusal}
@@ -228,45 +228,8 @@ finish_made moment repo new id range digest piece bytes reply h are (inl made) =
     (made.1 ∙ ap (with_blob moment (with_sessions repo (without repo.sessions id)) digest) are)
 finish_made moment repo new id range digest piece bytes reply h are (inr memory) = lacks moment repo new (calls.Finish (Some id) range digest piece) reply memory.0 memory.1
 
--- ---- other calls
+-- ---- the base route
 
--- a call that isn't built
-abbrev pub IsUnbuilt : Call → Type 0
-IsUnbuilt calls.Base = ⊤
-IsUnbuilt (calls.GetBlob digest) = ⊥
-IsUnbuilt (calls.HeadBlob digest) = ⊥
-IsUnbuilt (calls.DeleteBlob digest) = ⊥
-IsUnbuilt (calls.Post mount digest body) = ⊥
-IsUnbuilt (calls.Patch id range body) = ⊥
-IsUnbuilt (calls.Finish id range digest body) = ⊥
-IsUnbuilt (calls.UploadState id) = ⊥
-IsUnbuilt (calls.PutManifest reference media body) = ⊥
-IsUnbuilt (calls.GetManifest reference) = ⊥
-IsUnbuilt (calls.HeadManifest reference) = ⊥
-IsUnbuilt (calls.DeleteManifest reference) = ⊥
-IsUnbuilt (calls.Tags n last) = ⊥
-IsUnbuilt (calls.Referrers digest filter) = ⊤
-
-plain_unbuilt : (moment : ℕ) (repo : RepoState) (call : Call) → IsUnbuilt call → plain moment repo call ≡ stays repo not_built
+pub base_given : (moment : ℕ) (repo : RepoState) (reply : Reply) → reply ≡ Base → MayGive moment repo calls.Base reply repo
 unfolding plain
-plain_unbuilt moment repo calls.Base h = refl
-plain_unbuilt moment repo (calls.GetBlob digest) h = absurd h
-plain_unbuilt moment repo (calls.HeadBlob digest) h = absurd h
-plain_unbuilt moment repo (calls.DeleteBlob digest) h = absurd h
-plain_unbuilt moment repo (calls.Post mount digest body) h = absurd h
-plain_unbuilt moment repo (calls.Patch id range body) h = absurd h
-plain_unbuilt moment repo (calls.Finish id range digest body) h = absurd h
-plain_unbuilt moment repo (calls.UploadState id) h = absurd h
-plain_unbuilt moment repo (calls.PutManifest reference media body) h = absurd h
-plain_unbuilt moment repo (calls.GetManifest reference) h = absurd h
-plain_unbuilt moment repo (calls.HeadManifest reference) h = absurd h
-plain_unbuilt moment repo (calls.DeleteManifest reference) h = absurd h
-plain_unbuilt moment repo (calls.Tags n last) h = absurd h
-plain_unbuilt moment repo (calls.Referrers digest filter) h = refl
-
-pub unbuilt : (moment : ℕ) (repo : RepoState) (call : Call) (reply : Reply) → IsUnbuilt call → reply ≡ not_built → MayGive moment repo call reply repo
-unbuilt moment repo call reply h is = is_plain moment repo repo call reply (stays repo not_built) (plain_unbuilt moment repo call h) is refl
-
--- a call is one that isn't built
-pub as_unbuilt : (call other : Call) → call ≡ other → IsUnbuilt other → IsUnbuilt call
-as_unbuilt call other is h = subst IsUnbuilt (sym is) h
+base_given moment repo reply is = is_plain moment repo repo calls.Base reply (stays repo Base) refl is refl

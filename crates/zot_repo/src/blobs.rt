@@ -7,6 +7,7 @@ ghost use Rattle.zot_model.specs.PlainBlobs.{found_or};
 ghost use Rattle.zot_model.specs.declared.call.Call.TheVariants as calls;
 ghost use Rattle.zot_model.specs.declared.mount.Mount.{Mount};
 ghost use Rattle.zot_model.specs.declared.reply.Reply.TheVariants.{BlobHead};
+ghost use Rattle.zot_referrers.specs.Listing.{ListsSubjects};
 ghost use Rattle.zot_repo.specs.Replies.{GivesBlob, MayGive, TakesBlob};
 ghost use Rattle.zot_repo.specs.Repository.{rereads};
 
@@ -17,6 +18,7 @@ use zot_digest::{Bytes, Digest, digest_of};
 use zot_manifests::{Checked, Manifests};
 use zot_media::read_stored;
 use zot_model::{Methods, Reply};
+use zot_referrers::SubjectIndex;
 
 impl Repository {
     /// The reply to a GET of a blob: a copy of its bytes.
@@ -124,7 +126,13 @@ impl Repository {
         ensures ok { OnOk result (self.new ≡ with_blob moment self.old digest bytes) }
         ensures err { OnErr result (self.new ≡ self.old) }
     {
-        reread(&mut self.manifests, alloc, &digest, bytes.as_slice())?;
+        reread(
+            &mut self.manifests,
+            &mut self.subjects,
+            alloc,
+            &digest,
+            bytes.as_slice(),
+        )?;
         self.blobs.set(digest, StoredBlob::new(bytes, moment))?;
         self.known = true;
         Ok(())
@@ -134,12 +142,14 @@ impl Repository {
 // Reads the manifest of a digest again, if there is one, from these bytes. After an `Err` the table is as it was.
 fn reread(
     manifests: &mut Manifests,
+    subjects: &mut SubjectIndex,
     alloc: Global,
     digest: &Digest,
     bytes: &[u8],
 ) -> Result<(), AllocError>
     ensures ok { OnOk result (manifests.new ≡ rereads manifests.old digest.now bytes.now) }
     ensures err { OnErr result (manifests.new ≡ manifests.old) }
+    ensures lists { ListsSubjects manifests.old.manifests subjects.old.index.sets → ListsSubjects manifests.new.manifests subjects.new.index.sets }
 {
     let Some(kept) = manifests.manifest(digest) else {
         return Ok(());
@@ -147,6 +157,7 @@ fn reread(
     let media = kept.media;
     let arrived = kept.arrived;
     let reading = read_stored(alloc, media, bytes)?;
+    subjects.add(alloc, digest, &reading)?;
     let checked = Checked {
         digest: *digest,
         media,

@@ -118,6 +118,9 @@ impl Repository {
     {
         let digest = checked.digest;
         let subject = checked.reading.subject_digest();
+        let Ok(()) = self.subjects.add(alloc, &digest, &checked.reading) else {
+            return Reply::no_memory();
+        };
         let Ok(()) = self.manifests.put(alloc, checked, moment) else {
             return Reply::no_memory();
         };
@@ -148,9 +151,11 @@ impl Repository {
     fn delete_digest(&mut self, digest: &Digest) -> Reply
         ensures { (moment : ℕ) → MayGive moment self.old (calls.DeleteManifest (by.Digest digest.now)) result self.new }
     {
-        if !self.manifests.remove(digest) {
+        let Some(kept) = self.manifests.manifest(digest) else {
             return Reply::manifest_unknown();
-        }
+        };
+        self.subjects.remove(digest, &kept.reading);
+        self.manifests.remove(digest);
         Reply::Deleted
     }
 
@@ -166,6 +171,23 @@ impl Repository {
                 tags: page.tags,
                 next: page.next,
                 n: n.unwrap_or(0),
+            },
+            Err(_) => Reply::no_memory(),
+        }
+    }
+
+    /// The reply to a GET of the referrers of a digest: their list, of those alone of an artifact type where one is given.
+    pub fn list_referrers(&self, alloc: Global, digest: &Digest, filter: &Option<Words>) -> Reply
+        ensures { (moment : ℕ) → MayGive moment self.now (calls.Referrers digest.now filter.now) result self.now }
+    {
+        let wanted = text_of(filter);
+        match self
+            .subjects
+            .text(alloc, &self.manifests, &self.blobs, digest, wanted)
+        {
+            Ok(text) => Reply::Referrers {
+                text: Bytes::new(text.into_bytes()),
+                filtered: filter.is_some(),
             },
             Err(_) => Reply::no_memory(),
         }

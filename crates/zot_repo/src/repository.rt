@@ -8,19 +8,22 @@ use std::alloc::Global;
 use std::marker::Model;
 use zot_manifests::Manifests;
 use zot_model::{Call, Reply};
+use zot_referrers::SubjectIndex;
 use zot_uploads::Uploads;
 
-/// A repository: whether it is known, its blobs, its manifests and tags, and its upload sessions. Contracts see the plain repository. What the table says of a manifest is what its bytes say.
+/// A repository: whether it is known, its blobs, its manifests and tags, and its upload sessions. Contracts see the plain repository. What the table says of a manifest is what its bytes say, and each is listed under its subject.
 #[derive(Drop)]
 pub struct Repository {
     pub known: bool,
     pub blobs: BlobMap,
     pub manifests: Manifests,
+    pub subjects: SubjectIndex,
     pub sessions: Uploads,
 }
 
 impl Model for Repository {
     ghost use Rattle.zot_model.specs.State.{RepoState, repo_code};
+    ghost use Rattle.zot_referrers.specs.Listing.{ListsSubjects};
     ghost use Rattle.zot_repo.specs.Repository.{AreRead, repo_of};
 
     ghost Value = { RepoState };
@@ -29,7 +32,7 @@ impl Model for Repository {
 
     ghost view = { λ r. repo_of r.known r.blobs r.manifests r.sessions };
 
-    ghost invariant = { λ r. AreRead r.manifests.manifests r.blobs };
+    ghost invariant = { λ r. AreRead r.manifests.manifests r.blobs × ListsSubjects r.manifests.manifests r.subjects.index.sets };
 }
 
 impl Repository {
@@ -41,6 +44,7 @@ impl Repository {
             known: false,
             blobs: BlobMap::new(alloc),
             manifests: Manifests::new(alloc),
+            subjects: SubjectIndex::new(alloc),
             sessions: Uploads::new(alloc),
         }
     }
@@ -92,7 +96,8 @@ impl Repository {
             Call::HeadManifest(reference) => self.head_manifest(reference),
             Call::DeleteManifest(reference) => self.delete_manifest(reference),
             Call::Tags { n, last } => self.list_tags(alloc, *n, last),
-            Call::Base | Call::Referrers { .. } => Reply::not_built(),
+            Call::Referrers { digest, filter } => self.list_referrers(alloc, digest, filter),
+            Call::Base => Reply::Base,
         }
     }
 }

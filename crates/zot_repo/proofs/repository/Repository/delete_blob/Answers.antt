@@ -31,11 +31,13 @@ returns-then-is_needed c = λ moment.
     (sym c.is_needed.ensures ∙ c.if-is_needed.true) c.not_allowed.ensures
 
 pub invariant_of-self : goal.invariant_of-self
-invariant_of-self c =
-    reads_without c.self.inside.manifests.manifests c.self.inside.blobs c.remove.new.self c.args.digest.now c.remove.ensures
-    (not_needed c.self.inside.known c.self.inside.blobs c.self.inside.manifests c.self.inside.sessions c.self.invariant c.args.digest.now
-    (ap (λ (r : RepoState). is_needed r c.args.digest.now) c.self.view_is ∙ sym c.is_needed.ensures ∙ c.if-is_needed.false))
-    c.self.invariant
+invariant_of-self c = (
+  reads_without c.self.inside.manifests.manifests c.self.inside.blobs c.remove.new.self c.args.digest.now c.remove.ensures
+      (not_needed c.self.inside.known c.self.inside.blobs c.self.inside.manifests c.self.inside.sessions c.self.invariant.0 c.args.digest.now
+      (ap (λ (r : RepoState). is_needed r c.args.digest.now) c.self.view_is ∙ sym c.is_needed.ensures ∙ c.if-is_needed.false))
+      c.self.invariant.0,
+  c.self.invariant.1,
+)
 
 pub returns : goal.returns
 returns c = λ moment.

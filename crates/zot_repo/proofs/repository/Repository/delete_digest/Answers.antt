@@ -1,30 +1,37 @@
-use Rattle.std.proofs.Common.{◌∙◌, refl, sym, ap}
+use Rattle.std.proofs.Common.{◌≡◌, ◌∙◌, true, is_some, refl, sym, ap, subst}
+use Rattle.std.specs.FinMap as map
+use Rattle.zot_manifests.proofs.TableLemmas.{lists_remove}
 use Rattle.zot_manifests.specs.Table.{Table}
+use Rattle.zot_model.specs.State.{RepoState}
 use Rattle.zot_model.specs.declared.call.Call.TheVariants.{DeleteManifest}
 use Rattle.zot_media.specs.declared.reference.Reference.TheVariants as by
+use Rattle.zot_referrers.specs.Listing.{HasSubject}
 use Rattle.zot_repo.proofs.ManifestLemmas.{manifest_deleted, manifest_unknown}
 use Rattle.zot_repo.proofs.ReadLemmas.{reads_remove}
 use Rattle.zot_repo.proofs.ReplyLemmas.{at_call}
+use Rattle.zot_repo.specs.Replies.{MayGive}
 use Rattle.zot_repo.specs.Repository.{repo_of}
 use Rattle.zot_repo.proofs.repository.Repository.delete_digest.Goals as goal
 
-pub returns-then-not-remove : goal.returns-then-not-remove
-returns-then-not-remove c = λ moment.
-    let call = DeleteManifest (by.Digest c.args.digest.now) in
-    at_call moment c.args.self.now (repo_of c.self.inside.known c.self.inside.blobs c.self.inside.manifests c.self.inside.sessions) (repo_of c.self.inside.known c.self.inside.blobs c.remove.new.self c.self.inside.sessions) call call
-    c.manifest_unknown.result c.self.view_is refl
-    (manifest_unknown c.self.inside.known c.self.inside.blobs c.self.inside.manifests c.remove.new.self c.self.inside.sessions moment c.args.digest.now c.manifest_unknown.result
-    (sym c.remove.ensures.was ∙ c.if-not-remove.true) c.manifest_unknown.ensures (c.remove.ensures.stays c.if-not-remove.true))
+pub returns-in_default : goal.returns-in_default
+returns-in_default c = λ moment.
+    subst (λ (r : RepoState). MayGive moment r (DeleteManifest (by.Digest c.args.digest.now)) c.manifest_unknown.result r) c.self.view_is
+    (manifest_unknown c.self.inside.known c.self.inside.blobs c.self.inside.manifests c.self.inside.manifests c.self.inside.sessions moment c.args.digest.now c.manifest_unknown.result
+    (ap is_some (sym c.in_default.ensures)) c.manifest_unknown.ensures refl)
 
-pub invariant_of-self-2 : goal.invariant_of-self-2
-invariant_of-self-2 c =
-    reads_remove c.self.inside.manifests.manifests c.remove.new.self.manifests c.self.inside.blobs c.args.digest.now
-    (ap (λ (t : Table). t.manifests) (c.remove.ensures.removed c.if-not-remove.false)) c.self.invariant
+pub invariant_of-self : goal.invariant_of-self
+invariant_of-self c =
+    let there : is_some (map.get c.self.inside.manifests.manifests c.args.digest.now) ≡ true = ap is_some (sym c.in-Some.ensures) in
+    let gone = ap (λ (t : Table). t.manifests) (c.remove-2.ensures.removed (c.remove-2.ensures.was ∙ there)) in (
+      reads_remove c.self.inside.manifests.manifests c.remove-2.new.self.manifests c.self.inside.blobs c.args.digest.now gone c.self.invariant.0,
+      lists_remove HasSubject c.self.inside.manifests.manifests c.remove-2.new.self.manifests c.self.inside.subjects.index.sets c.remove.new.self.index.sets c.args.digest.now gone c.self.invariant.1 c.remove.ensures,
+    )
 
 pub returns : goal.returns
 returns c = λ moment.
+    let there : is_some (map.get c.self.inside.manifests.manifests c.args.digest.now) ≡ true = ap is_some (sym c.in-Some.ensures) in
     let call = DeleteManifest (by.Digest c.args.digest.now) in
-    at_call moment c.args.self.now (repo_of c.self.inside.known c.self.inside.blobs c.self.inside.manifests c.self.inside.sessions) (repo_of c.self.inside.known c.self.inside.blobs c.remove.new.self c.self.inside.sessions) call call
+    at_call moment c.args.self.now (repo_of c.self.inside.known c.self.inside.blobs c.self.inside.manifests c.self.inside.sessions) (repo_of c.self.inside.known c.self.inside.blobs c.remove-2.new.self c.self.inside.sessions) call call
     _ c.self.view_is refl
-    (manifest_deleted c.self.inside.known c.self.inside.blobs c.self.inside.manifests c.remove.new.self c.self.inside.sessions moment c.args.digest.now _
-    (sym c.remove.ensures.was ∙ c.if-not-remove.false) refl (c.remove.ensures.removed c.if-not-remove.false))
+    (manifest_deleted c.self.inside.known c.self.inside.blobs c.self.inside.manifests c.remove-2.new.self c.self.inside.sessions moment c.args.digest.now _
+    there refl (c.remove-2.ensures.removed (c.remove-2.ensures.was ∙ there)))

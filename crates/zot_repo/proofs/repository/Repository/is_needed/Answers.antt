@@ -14,11 +14,11 @@ some_copied (Some b) = refl
 pub returns-then-is_some : goal.returns-then-is_some
 returns-then-is_some c =
     c.if-is_some.true ∙ sym (ap (λ (r : RepoState). is_needed r c.args.digest.now) (sym c.self.view_is)
-    ∙ needed_same c.self.inside.known c.self.inside.blobs c.self.inside.manifests c.self.inside.sessions c.self.invariant c.args.digest.now
+    ∙ needed_same c.self.inside.known c.self.inside.blobs c.self.inside.manifests c.self.inside.sessions c.self.invariant.0 c.args.digest.now
     ∙ ap (λ b. b || is_referred c.self.inside.manifests.manifests c.args.digest.now) (ap is_some (sym c.manifest.ensures) ∙ some_copied c.manifest.result ∙ sym c.is_some.ensures ∙ c.if-is_some.true))
 
 pub returns-else-is_some : goal.returns-else-is_some
 returns-else-is_some c =
     c.refers.ensures ∙ sym (ap (λ (r : RepoState). is_needed r c.args.digest.now) (sym c.self.view_is)
-    ∙ needed_same c.self.inside.known c.self.inside.blobs c.self.inside.manifests c.self.inside.sessions c.self.invariant c.args.digest.now
+    ∙ needed_same c.self.inside.known c.self.inside.blobs c.self.inside.manifests c.self.inside.sessions c.self.invariant.0 c.args.digest.now
     ∙ ap (λ b. b || is_referred c.self.inside.manifests.manifests c.args.digest.now) (ap is_some (sym c.manifest.ensures) ∙ some_copied c.manifest.result ∙ sym c.is_some.ensures ∙ c.if-is_some.false))

@@ -1,5 +1,6 @@
-use Rattle.std.proofs.Common.{inl, inr, refl, sym}
-use Rattle.zot_repo.proofs.ReplyLemmas.{at_call, get_answers, as_unbuilt, head_answers, state_answers, unbuilt}
+use Rattle.std.proofs.Common.{refl, sym}
+use Rattle.zot_model.specs.declared.reply.Reply.TheVariants.{Base}
+use Rattle.zot_repo.proofs.ReplyLemmas.{at_call, base_given, get_answers, head_answers, state_answers}
 use Rattle.zot_repo.proofs.repository.Repository.reply_to.Goals as goal
 
 pub returns-in-GetBlob : goal.returns-in-GetBlob
@@ -19,9 +20,4 @@ returns-in-UploadState c =
 
 pub returns-in-Base : goal.returns-in-Base
 returns-in-Base c =
-    unbuilt c.args.moment c.args.self.now c.args.call.now c.not_built.result
-    (elim c.in-Base.is [
-      | inl h ↦ as_unbuilt c.args.call.now _ h tt
-      | inr h ↦ as_unbuilt c.args.call.now _ h.2 tt
-    ])
-    c.not_built.ensures
+    at_call c.args.moment c.args.self.now c.args.self.now c.args.self.now c.args.call.now _ Base refl (sym c.in-Base.is) (base_given c.args.moment c.args.self.now Base refl)
