@@ -10,7 +10,10 @@ mod uploads;
 use std::io;
 use std::process::ExitCode;
 use zot_cases::{Answer, Case, run};
-use zot_model::{answers_fit, common_refusals_fit, repositories_stand_alone};
+use zot_model::{
+    answers_fit, common_refusals_fit, manifest_comes_back, needed_blobs_stay, pages_are_the_list,
+    repositories_stand_alone,
+};
 use zot_uploads::{few_are_open, one_answer, others_stay};
 
 // Makes the call of a case.
@@ -28,6 +31,9 @@ fn main(rt: HostRuntime) -> io::Result<ExitCode> {
     answers_fit();
     common_refusals_fit();
     repositories_stand_alone();
+    needed_blobs_stay();
+    pages_are_the_list();
+    manifest_comes_back();
     one_answer();
     others_stay();
     few_are_open();

@@ -1,5 +1,6 @@
 //! Refusals, by the words of their constructors.
 use zot_cases::Answer;
+use zot_digest::digest_of;
 use zot_model::{Methods, Reply};
 use zot_names::UploadId;
 
@@ -11,7 +12,9 @@ pub fn refusal(answer: &mut Answer, given: &str) {
         "upload_invalid" => Reply::upload_invalid(UploadId::new(1), 2),
         "digest_invalid" => Reply::digest_invalid(),
         "manifest_invalid" => Reply::manifest_invalid(),
+        "manifest_blob_unknown" => Reply::manifest_blob_unknown(digest_of(b"{}")),
         "manifest_unknown" => Reply::manifest_unknown(),
+        "name_unknown" => Reply::name_unknown(),
         "size_invalid" => Reply::size_invalid(),
         "too_many_requests" => Reply::too_many_requests(),
         "no_memory" => Reply::no_memory(),
