@@ -4,7 +4,8 @@ use std::alloc::Global;
 use std::fs;
 use zot_cases::{Answer, Case, number, word};
 use zot_fakes::SteadyStore;
-use zot_outside::{FolderStore, Store};
+use zot_folder::FolderStore;
+use zot_outside::Store;
 
 // The calls of the sequence, of which two in eight are `append`.
 const CALLS: [&str; 8] = [

@@ -4,9 +4,10 @@ use std::fs;
 use std::io::{Read, Write};
 use std::net::{TcpListener, TcpStream};
 use std::test::Fail;
+use zot_folder::FolderStore;
 use zot_outside::{
-    Accepted, BindError, Clock, FolderStore, Gate, Listener, OpenGate, Point, ReaderSource, Sink,
-    Source, Store, StoreError, SystemClock, TcpListeners, WriterSink,
+    Accepted, BindError, Clock, Gate, Listener, OpenGate, Point, ReaderSource, Sink, Source, Store,
+    StoreError, SystemClock, TcpListeners, WriterSink,
 };
 
 /// A store over a new folder in the test's own folder.

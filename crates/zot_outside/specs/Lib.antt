@@ -1,10 +1,5 @@
 pub mod Accepted
-pub mod Answers
 pub mod Faults
-pub mod Listing
 pub mod Moments
 pub mod Objects
-pub mod Paths
-pub mod Place
-pub mod Steps
 pub mod Streams

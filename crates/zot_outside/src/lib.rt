@@ -1,6 +1,6 @@
 //! The outside: where bytes come from and go to, where objects are kept, the time, and connections.
 //!
-//! Each is a trait with a count of faults, and a call answers that it failed only where that count rose. The real ones stand beside their traits: `FolderStore::new(rt, alloc, "/srv/registry")?.put(alloc, "a/index.json", bytes)?` writes a file.
+//! Each is a trait with a count of faults, and a call answers that it failed only where that count rose. Real streams, sockets and the system's clock stand beside their traits: `WriterSink::new(rt.stdout()).write(b"text")` writes to the output.
 #![tactic(auto)]
 
 mod clocks;
@@ -15,7 +15,7 @@ pub use crate::failed::Failed;
 pub use crate::gates::{Gate, OpenGate, Point};
 pub use crate::sockets::{Accepted, BindError, Listener, TcpListeners};
 pub use crate::stores::{
-    FolderStore, Parts, Store, StoreError, StoreResult, append_changes, change_is_one,
-    copy_changes, delete_changes, listed_as_held, listing_ends, next_lists, put_changes,
+    Parts, Store, StoreError, StoreResult, append_changes, change_is_one, copy_changes,
+    delete_changes, listed_as_held, listing_ends, next_lists, put_changes,
 };
 pub use crate::streams::{ReaderSource, Sink, Source, WriterSink};

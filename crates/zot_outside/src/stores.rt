@@ -1,20 +1,10 @@
 //! Where objects are kept by their paths.
 
-mod answers;
-mod files;
-mod folder_store;
 mod laws;
-mod listing;
 mod parts;
-mod paths;
-mod place;
-mod root;
-mod spot;
 mod store;
 mod store_error;
-mod walk;
 
-pub use self::folder_store::FolderStore;
 pub use self::laws::{
     append_changes, change_is_one, copy_changes, delete_changes, listed_as_held, listing_ends,
     next_lists, put_changes,

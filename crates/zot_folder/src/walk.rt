@@ -1,0 +1,125 @@
+//! The files below a folder, one after another by their paths.
+ghost use Rattle.std.specs.Prelude.{◌≡◌, ◌≢◌, ◌<◌, ◌⊎◌, [], IfOk, IfSome, map, option_map, string_bytes, vec_len};
+ghost use Rattle.std.specs.List.{HoldsAt};
+ghost use Rattle.std.specs.declared.cmp.Ordering.TheVariants.{Less};
+ghost use Rattle.zot_folder.specs.Listing.{FindsAbove, IsFileAbove};
+ghost use Rattle.zot_folder.specs.declared.listing.Listing.{Listing};
+ghost use Rattle.zot_outside.specs.Objects.{path_cmp};
+ghost use Rattle.zot_folder.specs.Steps.{OnEnd};
+
+use crate::listing::Listing;
+use crate::root::Root;
+use crate::spot::{Spot, Step};
+use std::alloc::{AllocError, Global};
+use std::fs::Files;
+use std::io;
+use std::io::ErrorKind;
+
+/// A walk through the files below a root. While it goes on from the path that it found last, it reads each folder once.
+#[derive(Drop)]
+pub struct Walk {
+    last: String,
+    listings: Vec<Listing>,
+}
+
+impl Walk {
+    /// A walk that hasn't begun. Takes no memory.
+    pub fn new(alloc: Global) -> Self
+        ensures { result.listings.items ≡ [] }
+    {
+        Walk {
+            last: String::new(alloc),
+            listings: Vec::new(alloc),
+        }
+    }
+
+    /// Forgets what was read.
+    pub fn forget(&mut self)
+        ensures { self.new.listings.items ≡ [] }
+    {
+        self.listings.clear();
+    }
+
+    // Where the search for the path after one begins. What was read is forgotten, unless the walk goes on from the path that it found last.
+    fn begin(&mut self, alloc: Global, after: &str) -> Result<Spot, AllocError>
+        ensures { IfOk result (λ spot. string_bytes spot.bound ≡ after.now) }
+    {
+        if self.last.as_str() != after {
+            self.forget();
+        }
+        Spot::at(alloc, after)
+    }
+
+    // Takes a step from a spot, by the listing of its folder. Where no listing of it is held, there is no step.
+    fn step(&mut self, alloc: Global, spot: &mut Spot) -> Result<Step, AllocError>
+        ensures end { IfOk result (λ step. OnEnd step (λ found. IfSome found (λ path. IsFileAbove (string_bytes spot.old.bound) path))) }
+        ensures bound { IfOk result (λ _. (string_bytes spot.new.bound ≡ string_bytes spot.old.bound) ⊎ (path_cmp (string_bytes spot.old.bound) (string_bytes spot.new.bound) ≡ Less)) }
+    {
+        match self.held(spot.folder()) {
+            Some(at) => {
+                let least = self.least(alloc, at, spot.bound())?;
+                spot.follow(alloc, least)
+            }
+            None => Ok(Step::Unread),
+        }
+    }
+
+    // Where the listing of a folder stands that is held. Those that were read after it are dropped.
+    fn held(&mut self, folder: &str) -> Option<usize>
+        ensures within { IfSome result (λ at. at < vec_len self.new.listings) }
+        ensures folder { IfSome result (λ at. HoldsAt (λ (listing : Listing). string_bytes listing.folder ≡ folder.now) self.new.listings.items at) }
+    {
+        let held = self
+            .listings
+            .iter()
+            .position(|listing| listing.is_of(folder));
+        if let Some(at) = held {
+            self.listings.truncate(at + 1);
+        }
+        held
+    }
+
+    // A copy of the least path in a listing that is greater than a bound.
+    fn least(&self, alloc: Global, at: usize, bound: &str) -> Result<Option<String>, AllocError>
+        requires { at < vec_len self.now.listings }
+        ensures above { IfOk result (λ found. IfSome found (λ path. path_cmp bound.now (string_bytes path) ≡ Less)) }
+        ensures least { IfOk result (λ found. HoldsAt (λ (listing : Listing). FindsAbove (map string_bytes listing.paths.items) bound.now (option_map string_bytes found)) self.now.listings.items at) }
+    {
+        self.listings[at].copy_above(alloc, bound)
+    }
+
+    // Adds a listing.
+    fn add(&mut self, listing: Listing) -> Result<(), AllocError> {
+        Ok(self.listings.push(listing)?)
+    }
+
+    // Keeps the path that was found last.
+    fn remember(&mut self, alloc: Global, found: &Option<String>) -> Result<(), AllocError> {
+        if let Some(path) = found {
+            self.last = String::from_str(alloc, path.as_str())?;
+        }
+        Ok(())
+    }
+}
+
+/// The least path of a file below a root that is greater than the path `after`.
+pub fn next_file<R: Files + AllocGlobal + Clone + Drop>(
+    walk: &mut Walk,
+    root: &Root<R>,
+    after: &str,
+) -> io::Result<Option<String>>
+    ensures { IfOk result (λ found. IfSome found (λ path. IsFileAbove after.now (string_bytes path))) }
+{
+    let mut spot = walk.begin(root.alloc, after)?;
+    for _ in 0..u64::MAX {
+        match walk.step(root.alloc, &mut spot)? {
+            Step::Unread => walk.add(Listing::read(root, spot.folder())?)?,
+            Step::Folder => {}
+            Step::End(found) => {
+                walk.remember(root.alloc, &found)?;
+                return Ok(found);
+            }
+        }
+    }
+    Err(io::Error::from(ErrorKind::Other))
+}
