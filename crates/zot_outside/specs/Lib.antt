@@ -2,4 +2,5 @@ pub mod Accepted
 pub mod Faults
 pub mod Moments
 pub mod Objects
+pub mod Passing
 pub mod Streams

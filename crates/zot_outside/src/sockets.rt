@@ -3,6 +3,7 @@
 mod accepted;
 mod bind_error;
 mod listener;
+mod passing;
 mod tcp_listeners;
 
 pub use self::accepted::Accepted;

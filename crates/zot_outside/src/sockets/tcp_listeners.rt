@@ -1,9 +1,10 @@
 //! The members' sockets.
-ghost use Rattle.std.specs.Prelude.{◌≡◌, ◌<◌, ◌^◌, ◌+◌, IfOk, IfSome, IsErr, MatchOption, OnErr, length, vec_len, ◌≤◌};
-ghost use Rattle.zot_outside.specs.Faults.{HasCause, Rose};
+ghost use Rattle.std.specs.Prelude.{◌≡◌, ◌<◌, ◌^◌, ◌+◌, IfOk, IfSome, IsErr, IsOkAnd, MatchOption, OnErr, length, vec_len};
+ghost use Rattle.zot_outside.specs.Faults.{HasCause};
 ghost use Rattle.zot_outside.specs.declared.sockets.accepted.Accepted.TheVariants.{Quiet};
 
 use crate::failed::Failed;
+use crate::sockets::passing::unless_passing;
 use crate::sockets::{Accepted, BindError, Listener};
 use crate::streams::{ReaderSource, WriterSink};
 use std::alloc::{AllocError, Global};
@@ -15,7 +16,7 @@ use std::{io, rt, thread};
 /// How many milliseconds a look rests that found nothing, so that looking again doesn't take a whole processor.
 const REST: u64 = 10;
 
-/// The sockets at which the members listen. It counts each failed call.
+/// The sockets at which the members listen. It counts each failed call. A connection that broke before it was taken, and a want of memory, descriptors or network that passes, is `Quiet`.
 #[derive(Drop)]
 pub struct TcpListeners<R> {
     rt: R,
@@ -23,6 +24,13 @@ pub struct TcpListeners<R> {
     first: usize,
     faults: u64,
     ghost numbered: { vec_len listeners < 2 ^ 32 },
+}
+
+// The two ends of a connection: one stream, held twice.
+#[derive(Drop)]
+struct Ends {
+    reader: TcpStream,
+    writer: TcpStream,
 }
 
 impl<R: Net<Listener = TcpListener, Stream = TcpStream> + Drop> TcpListeners<R> {
@@ -50,57 +58,32 @@ impl<R: Net<Listener = TcpListener, Stream = TcpStream> + Drop> TcpListeners<R> 
 impl<R> TcpListeners<R> {
     ghost use Rattle.zot_outside.specs.Accepted.{IsStream};
 
-    // The two ends of a connection.
-    fn open(
-        &mut self,
-        member: u32,
-        stream: TcpStream,
-    ) -> Result<Accepted<ReaderSource<TcpStream>, WriterSink<TcpStream>>, Failed>
-        ensures cause { HasCause self.old.faults self.new.faults result }
-        ensures member { IfOk result (λ accepted. IsStream accepted member) }
-        ensures kept { vec_len self.new.listeners ≡ vec_len self.old.listeners }
-        ensures turn { self.new.first ≡ self.old.first }
-    {
-        match stream.try_clone() {
-            Ok(reader) => Ok(Accepted::Stream(
-                member,
-                ReaderSource::new(reader),
-                WriterSink::new(stream),
-            )),
-            Err(_) => Err(self.fault()),
-        }
-    }
-
     // What a call answers for what a look found: a connection, nothing or an error. The next look begins after the member of this connection.
     fn found(
         &mut self,
-        looked: io::Result<Option<(u32, TcpStream)>>,
+        looked: io::Result<Option<(u32, Ends)>>,
     ) -> Result<Accepted<ReaderSource<TcpStream>, WriterSink<TcpStream>>, Failed>
         ensures cause { HasCause self.old.faults self.new.faults result }
-        ensures answer { IfOk looked (λ found. MatchOption found (result ≡ Ok Quiet) (λ one. IfOk result (λ accepted. IsStream accepted one.0))) }
+        ensures answer { IfOk looked (λ found. MatchOption found (result ≡ Ok Quiet) (λ one. IsOkAnd result (λ accepted. IsStream accepted one.0))) }
         ensures lost { OnErr looked (IsErr result) }
         ensures turn { IfOk looked (λ found. IfSome found (λ one. self.new.first ≡ one.0 + 1)) }
         ensures kept { vec_len self.new.listeners ≡ vec_len self.old.listeners }
     {
         match looked {
-            Ok(Some((member, stream))) => {
+            Ok(Some((member, ends))) => {
                 self.first = member as usize + 1;
-                self.open(member, stream)
+                Ok(Accepted::Stream(
+                    member,
+                    ReaderSource::new(ends.reader),
+                    WriterSink::new(ends.writer),
+                ))
             }
             Ok(None) => Ok(Accepted::Quiet),
-            Err(_) => Err(self.fault()),
+            Err(_) => {
+                self.faults = self.faults.saturating_add(1);
+                Err(Failed)
+            }
         }
-    }
-
-    // Counts a fault.
-    fn fault(&mut self) -> Failed
-        ensures later { self.old.faults ≤ self.new.faults }
-        ensures rose { Rose self.old.faults self.new.faults }
-        ensures kept { vec_len self.new.listeners ≡ vec_len self.old.listeners }
-        ensures turn { self.new.first ≡ self.old.first }
-    {
-        self.faults = self.faults.saturating_add(1);
-        Failed
     }
 }
 
@@ -140,27 +123,23 @@ impl<R: rt::Clock> Listener for TcpListeners<R> {
 }
 
 // Looks once at each socket for a connection that waits, from that of the member `first` on.
-fn look(listeners: &[TcpListener], first: usize) -> io::Result<Option<(u32, TcpStream)>>
+fn look(listeners: &[TcpListener], first: usize) -> io::Result<Option<(u32, Ends)>>
     requires { length listeners.now < 2 ^ 32 }
     ensures { IfOk result (λ found. IfSome found (λ one. one.0 < length listeners.now)) }
 {
     let n = listeners.len();
     for step in 0..n {
         let member = (first % n + step) % n;
-        if let Some(stream) = take(&listeners[member])? {
-            return Ok(Some((member as u32, stream)));
+        if let Some(ends) = unless_passing(take(&listeners[member]))? {
+            return Ok(Some((member as u32, ends)));
         }
     }
     Ok(None)
 }
 
-// The connection that waits at a socket, or `None` if none waits. One that its peer has ended already counts as none.
-fn take(listener: &TcpListener) -> io::Result<Option<TcpStream>> {
-    match listener.accept() {
-        Ok((stream, _)) => Ok(Some(stream)),
-        Err(error) => match error.kind() {
-            ErrorKind::WouldBlock | ErrorKind::ConnectionAborted => Ok(None),
-            _ => Err(error),
-        },
-    }
+// The two ends of the connection that waits at a socket.
+fn take(listener: &TcpListener) -> io::Result<Ends> {
+    let (writer, _) = listener.accept()?;
+    let reader = writer.try_clone()?;
+    Ok(Ends { reader, writer })
 }
