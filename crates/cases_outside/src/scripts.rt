@@ -1,6 +1,6 @@
 //! Scripts: calls on a store, each `CALL PATH MORE`, with `; ` between two.
 use zot_cases::{Answer, word};
-use zot_outside::Store;
+use zot_outside::{Store, has_bytes, read_whole};
 
 /// What a store answers to each call of a script. It reads from the third byte on.
 pub fn answers<S: Store>(answer: &mut Answer, store: &mut S, script: &str) {
@@ -30,6 +30,11 @@ pub fn make<S: Store>(answer: &mut Answer, store: &mut S, step: &str, at: u64) {
             answer.show(&read);
             answer.write(buf.get(..read.unwrap_or(0)).unwrap_or(b""));
         }
+        "whole" => match read_whole(store, alloc, path) {
+            Ok(bytes) => answer.write(bytes.as_slice()),
+            Err(error) => answer.show(&error),
+        },
+        "has" => answer.show(&has_bytes(store, alloc, path, more.as_bytes())),
         _ => answer.fail("no such call"),
     }
 }

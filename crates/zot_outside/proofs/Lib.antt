@@ -2,3 +2,4 @@ pub mod ListingLemmas
 pub mod MomentLemmas
 pub mod ObjectLemmas
 pub mod StreamLemmas
+pub mod WholeLemmas

@@ -4,3 +4,4 @@ pub mod Moments
 pub mod Objects
 pub mod Passing
 pub mod Streams
+pub mod Whole

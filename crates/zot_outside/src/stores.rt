@@ -4,6 +4,7 @@ mod laws;
 mod parts;
 mod store;
 mod store_error;
+mod whole;
 
 pub use self::laws::{
     append_changes, change_is_one, copy_changes, delete_changes, listed_as_held, listing_ends,
@@ -12,3 +13,4 @@ pub use self::laws::{
 pub use self::parts::Parts;
 pub use self::store::Store;
 pub use self::store_error::{StoreError, StoreResult};
+pub use self::whole::{has_bytes, read_whole};
