@@ -4,14 +4,14 @@ use std::fs;
 use std::io::{Read, Write};
 use std::net::{TcpListener, TcpStream};
 use std::test::Fail;
-use zot_folder::FolderStore;
+use zot_folder::{Disk, FolderStore};
 use zot_outside::{
     Accepted, BindError, Clock, Gate, Listener, OpenGate, Point, ReaderSource, Sink, Source, Store,
     StoreError, SystemClock, TcpListeners, WriterSink,
 };
 
 /// A store over a new folder in the test's own folder.
-fn fresh_folder(rt: HostRuntime, root: &str) -> Result<FolderStore<HostRuntime>, Fail> {
+fn fresh_folder(rt: HostRuntime, root: &str) -> Result<FolderStore<Disk<HostRuntime>>, Fail> {
     if fs::exists(&rt, root)? {
         fs::remove_dir_all(&rt, root)?;
     }

@@ -1,2 +1,4 @@
 mod FolderLemmas
 mod PathLemmas
+mod TreeLemmas
+mod WritingLemmas

@@ -1,11 +1,54 @@
--- Paths and their slashes.
-use Rattle.std.proofs.Common.{◌≡◌, ℕ, List, ◌∷◌, ◌++◌, length, get_or, None, lit<, arith, length-append, ap, ◌∙◌}
-use Rattle.std.proofs.Math.Seq.{get_or-append_seam}
-use Rattle.std.proofs.lemmas.Str.Pattern.{NoCharPasses-char}
-use Rattle.std.specs.Str.Pattern.{RFindsChar}
+-- Which paths can have no object.
+use Rattle.std.proofs.Common.{◌≡◌, ℕ, Bool, true, false, cond, eqb, not, ◌&&◌, ◌==◌, nat_lt, List, [], ◌∷◌, ◌++◌, length, drop, refl, ap, ◌∙◌, String, string_bytes, Result, Ok, Err, IfOk}
+use Rattle.std.specs.List.{list_all, list_any, onto_first, slice_split}
+use Rattle.zot_folder.specs.Paths.{is_object_path, is_part}
 
--- a slash is found where there is one
-pub slash_found : (text front back : List ℕ) → text ≡ front ++ 47 ∷ back → RFindsChar 47 text None → ⊥
-slash_found text front back is none =
-    NoCharPasses-char 47 text (length front) none (lit< tt) (rw is (omega (arith, length-append front (47 ∷ back))))
-    (ap (λ t. get_or t (length front) 0) is ∙ get_or-append_seam front 47 back 0)
+-- the parts of a path
+abbrev parts : List ℕ → List (List ℕ)
+parts path = slice_split (λ b. eqb b 47) path
+
+cut_short : (a c d : Bool) → (a && false && c && d) ≡ false
+cut_short true c d = refl
+cut_short false c d = refl
+
+-- a part that begins with a dot is none of an object's path
+dotted : (rest : List (List ℕ)) → list_all is_part (onto_first 46 rest) ≡ false
+dotted [] = refl
+dotted (part ∷ rest) = cut_short (nat_lt 0 (length (46 ∷ part))) (not (list_any (λ b. b == 0) (46 ∷ part))) (list_all is_part rest)
+
+-- nor is any path whose later parts aren't all parts of one
+later : (first : List ℕ) (rest : List (List ℕ)) → list_all is_part rest ≡ false → list_all is_part (first ∷ rest) ≡ false
+later first rest h = elim (is_part first) as (λ b. (b && list_all is_part rest) ≡ false) [ true ↦ h | false ↦ refl ]
+
+-- the parts after the first
+abbrev tail : List (List ℕ) → List (List ℕ)
+tail ps = drop 1 ps
+
+tail_onto : (b : ℕ) (ps : List (List ℕ)) → list_all is_part (tail ps) ≡ false → list_all is_part (tail (onto_first b ps)) ≡ false
+tail_onto b [] h = h
+tail_onto b (p ∷ ps) h = h
+
+whole_from_tail : (ps : List (List ℕ)) → list_all is_part (tail ps) ≡ false → list_all is_part ps ≡ false
+whole_from_tail [] h = h
+whole_from_tail (p ∷ ps) h = later p ps h
+
+-- a name in a folder that begins with a dot is among the later parts
+hidden_tail : (front rest : List ℕ) → list_all is_part (tail (parts (front ++ 47 ∷ 46 ∷ rest))) ≡ false
+hidden_tail [] rest = dotted (parts rest)
+hidden_tail (b ∷ front) rest =
+    elim (eqb b 47) as (λ e. list_all is_part (tail (cond e ([] ∷ parts (front ++ 47 ∷ 46 ∷ rest)) (onto_first b (parts (front ++ 47 ∷ 46 ∷ rest))))) ≡ false) [
+      | true ↦ whole_from_tail (parts (front ++ 47 ∷ 46 ∷ rest)) (hidden_tail front rest)
+      | false ↦ tail_onto b (parts (front ++ 47 ∷ 46 ∷ rest)) (hidden_tail front rest)
+    ]
+
+-- a path whose last part begins with a dot can have no object
+hidden_below : (folder name : List ℕ) → is_object_path (folder ++ 47 ∷ 46 ∷ name) ≡ false
+hidden_below folder name = whole_from_tail (parts (folder ++ 47 ∷ 46 ∷ name)) (hidden_tail folder name)
+
+pub hidden_in_folder : {Z E : Type 0} (made : Result (String Z) E) (folder name : List ℕ) → IfOk made (λ path. string_bytes path ≡ folder ++ 47 ∷ 46 ∷ name) → IfOk made (λ path. is_object_path (string_bytes path) ≡ false)
+hidden_in_folder (Ok path) folder name is = ap is_object_path is ∙ hidden_below folder name
+hidden_in_folder (Err error) folder name is = tt
+
+pub hidden_in_root : {Z E : Type 0} (made : Result (String Z) E) (name : List ℕ) → IfOk made (λ path. string_bytes path ≡ 46 ∷ name) → IfOk made (λ path. is_object_path (string_bytes path) ≡ false)
+hidden_in_root (Ok path) name is = ap is_object_path is ∙ dotted (parts name)
+hidden_in_root (Err error) name is = tt

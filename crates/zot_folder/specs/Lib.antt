@@ -1,5 +1,5 @@
 pub mod Answers
 pub mod Listing
 pub mod Paths
-pub mod Place
 pub mod Steps
+pub mod Trees

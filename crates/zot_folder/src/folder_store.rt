@@ -5,42 +5,44 @@ ghost use Rattle.zot_outside.specs.Faults.{HasStoreCause, OnMissing};
 ghost use Rattle.zot_outside.specs.Objects.{path_cmp};
 
 use crate::answers::{done, fault, found};
-use crate::files::{copy_file, extend_file, file_size, read_file, remove_file, write_file};
-use crate::place::Place;
-use crate::root::Root;
+use crate::disk::Disk;
+use crate::reading::{object_size, read_object};
+use crate::tree::{Content, Tree};
 use crate::walk::{Walk, next_file};
+use crate::writing::{copy_object, extend_object, remove_object, write_object};
 use std::alloc::{AllocError, Global};
-use std::fs::Files;
 use zot_outside::{Failed, Store, StoreResult};
 
-/// A folder of the system as a store: each object is a file below it, at its path. It doesn't tell its objects, and counts each call of the system that failed.
+/// The files of a tree as a store: each object is a file, at its path. Over a folder of the system it doesn't tell its objects. It counts each call of the system that failed.
 ///
-/// An object's path is parts joined by slashes. A part has at least one byte and no NUL, and doesn't begin with a dot. Any other path is missing where it is looked up, and a write to it fails. So no path leads out of the folder, and no file whose name begins with a dot is an object. Folders are made when a file needs them, and stay when their files go. `put` and `copy` write a fresh file, whose name begins with a dot, and rename it over the old one. There can't be both an object `a` and an object `a/b`: the second write fails.
+/// An object's path is parts joined by slashes. A part has at least one byte and no NUL, and doesn't begin with a dot. Any other path is missing where it is looked up, and a write to it fails. So no path leads out of the folder, and no file whose name begins with a dot is an object. There can't be both an object `a` and an object `a/b`: the second write fails.
+///
+/// The folder may be a symbolic link, and is made with the first object. Below it no link is followed: what is behind one is missing, and a write to it fails. Between the look at a path and the opening of its file the system has no lock, so whoever may change the folder can still put a link there.
+///
+/// A `put`, `copy` or `delete` that succeeded is on the disk, as far as the system gives that: the file and the names in its folder, and those of new folders. An `append` isn't brought to the disk: after a loss of power some of its bytes may be there, or none. `put` and `copy` write a fresh file, `.zot-new-` and a number, and rename it over the old one. Those that a killed program left are removed by the next listing of their folder, unless another store has them locked. A folder whose last object goes is removed.
+///
+/// Where the system fails in the last step, as when the names in a folder can't be brought to the disk after the file was renamed, the call fails though the folder has the new object; and an `append` that can't be cut back leaves a part of its bytes.
 #[derive(Drop)]
-pub struct FolderStore<R> {
-    rt: R,
-    root: String,
+pub struct FolderStore<T> {
+    tree: T,
     walk: Walk,
     faults: u64,
 }
 
-impl<R: Drop> FolderStore<R> {
-    /// The store of the folder of this name. The folder is made with the first object. It takes memory for the name.
-    pub fn new(rt: R, alloc: Global, root: &str) -> Result<FolderStore<R>, AllocError>
-        ensures root { IfOk result (λ store. string_bytes store.root ≡ root.now) }
-        ensures faults { IfOk result (λ store. store.faults ≡ 0) }
+impl<R: Drop> FolderStore<Disk<R>> {
+    /// The store of the folder of this name. It takes memory for the name.
+    pub fn new(rt: R, alloc: Global, root: &str) -> Result<FolderStore<Disk<R>>, AllocError>
+        ensures { IfOk result (λ store. store.faults ≡ 0) }
     {
-        let root = String::from_str(alloc, root)?;
         Ok(FolderStore {
-            rt,
-            root,
+            tree: Disk::new(rt, alloc, root)?,
             walk: Walk::new(alloc),
             faults: 0,
         })
     }
 }
 
-impl<R: Files + AllocGlobal + Clone + Drop> Store for FolderStore<R> {
+impl<T: Tree> Store for FolderStore<T> {
     ghost objects = { λ _. None };
 
     ghost faults = { λ s. s.faults };
@@ -48,43 +50,36 @@ impl<R: Files + AllocGlobal + Clone + Drop> Store for FolderStore<R> {
     ghost limited = { λ _. tt };
 
     fn size(&mut self, alloc: Global, path: &str) -> StoreResult<u64> {
-        let place = Place::held(alloc, self.root.as_str(), path)?;
-        let size = file_size(&self.rt, place.file.as_str());
+        let size = object_size(&mut self.tree, alloc, path);
         found(&mut self.faults, size)
     }
 
     fn read(&mut self, alloc: Global, path: &str, at: u64, buf: &mut [u8]) -> StoreResult<usize> {
-        let place = Place::held(alloc, self.root.as_str(), path)?;
-        let read = read_file(&self.rt, place.file.as_str(), at, buf);
+        let read = read_object(&mut self.tree, alloc, path, at, buf);
         found(&mut self.faults, read)
     }
 
     fn put(&mut self, alloc: Global, path: &str, bytes: &[u8]) -> StoreResult<()> {
         self.walk.forget();
-        let place = Place::wanted(&mut self.faults, alloc, self.root.as_str(), path)?;
-        let written = write_file(&self.rt, &place, bytes);
+        let written = write_object(&mut self.tree, alloc, path, Content::Bytes(bytes));
         done(&mut self.faults, written)
     }
 
     fn append(&mut self, alloc: Global, path: &str, bytes: &[u8]) -> StoreResult<()> {
         self.walk.forget();
-        let place = Place::wanted(&mut self.faults, alloc, self.root.as_str(), path)?;
-        let written = extend_file(&self.rt, &place, bytes);
-        done(&mut self.faults, written)
+        let extended = extend_object(&mut self.tree, alloc, path, bytes);
+        done(&mut self.faults, extended)
     }
 
     fn copy(&mut self, alloc: Global, from: &str, to: &str) -> StoreResult<()> {
         self.walk.forget();
-        let source = Place::held(alloc, self.root.as_str(), from)?;
-        let place = Place::wanted(&mut self.faults, alloc, self.root.as_str(), to)?;
-        let copied = copy_file(&self.rt, &source, &place);
+        let copied = copy_object(&mut self.tree, alloc, from, to);
         found(&mut self.faults, copied)
     }
 
     fn delete(&mut self, alloc: Global, path: &str) -> StoreResult<()> {
         self.walk.forget();
-        let place = Place::held(alloc, self.root.as_str(), path)?;
-        let removed = remove_file(&self.rt, place.file.as_str());
+        let removed = remove_object(&mut self.tree, alloc, path);
         found(&mut self.faults, removed)
     }
 
@@ -93,12 +88,7 @@ impl<R: Files + AllocGlobal + Clone + Drop> Store for FolderStore<R> {
         ensures missing { OnMissing result ⊥ }
         ensures above { IfOk result (λ found. IfSome found (λ path. path_cmp after.now (string_bytes path) ≡ Less)) }
     {
-        let root = Root {
-            rt: &self.rt,
-            alloc,
-            name: self.root.as_str(),
-        };
-        let next = next_file(&mut self.walk, &root, after);
+        let next = next_file(&mut self.walk, &mut self.tree, alloc, after);
         done(&mut self.faults, next)
     }
 

@@ -4,13 +4,20 @@
 #![tactic(auto)]
 
 mod answers;
+mod disk;
+mod entries;
 mod files;
 mod folder_store;
+mod folders;
+mod fresh;
 mod listing;
 mod paths;
-mod place;
-mod root;
+mod reading;
 mod spot;
+mod tree;
 mod walk;
+mod writing;
 
+pub use crate::disk::Disk;
 pub use crate::folder_store::FolderStore;
+pub use crate::tree::{Content, Kind, Tree};

@@ -24,3 +24,11 @@ pub fn below(alloc: Global, folder: &str, path: &str) -> Result<String, AllocErr
 {
     format!(in alloc; "{folder}/{path}")
 }
+
+/// The folder that a path lies in: what stands before its last slash, or nothing.
+pub fn folder_of(path: &str) -> &str {
+    match path.rsplit_once('/') {
+        Some(cut) => cut.0,
+        None => "",
+    }
+}

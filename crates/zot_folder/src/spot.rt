@@ -3,6 +3,7 @@ ghost use Rattle.std.specs.Prelude.{◌≡◌, ◌⊎◌, IfOk, IfSome, IsSomeAn
 ghost use Rattle.zot_folder.specs.Listing.{IsFilePath};
 ghost use Rattle.zot_folder.specs.Steps.{OnEnd};
 
+use crate::paths::folder_of;
 use std::alloc::{AllocError, Global};
 
 /// Where a walk stands: the folder that it looks in, and the path that the next one has to be greater than.
@@ -84,13 +85,5 @@ impl Spot {
         }
         self.folder = String::from_str(alloc, folder_of(self.folder.as_str()))?;
         Ok(Step::Folder)
-    }
-}
-
-// The folder that a path lies in: what stands before its last slash, or nothing.
-fn folder_of(path: &str) -> &str {
-    match path.rsplit_once('/') {
-        Some(cut) => cut.0,
-        None => "",
     }
 }

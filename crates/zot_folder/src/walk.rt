@@ -1,4 +1,4 @@
-//! The files below a folder, one after another by their paths.
+//! The files of a tree, one after another by their paths.
 ghost use Rattle.std.specs.Prelude.{◌≡◌, ◌≢◌, ◌<◌, ◌⊎◌, [], IfOk, IfSome, map, option_map, string_bytes, vec_len};
 ghost use Rattle.std.specs.List.{HoldsAt};
 ghost use Rattle.std.specs.declared.cmp.Ordering.TheVariants.{Less};
@@ -8,14 +8,13 @@ ghost use Rattle.zot_outside.specs.Objects.{path_cmp};
 ghost use Rattle.zot_folder.specs.Steps.{OnEnd};
 
 use crate::listing::Listing;
-use crate::root::Root;
 use crate::spot::{Spot, Step};
+use crate::tree::Tree;
 use std::alloc::{AllocError, Global};
-use std::fs::Files;
 use std::io;
 use std::io::ErrorKind;
 
-/// A walk through the files below a root. While it goes on from the path that it found last, it reads each folder once.
+/// A walk through the files of a tree. While it goes on from the path that it found last, it reads each folder once.
 #[derive(Drop)]
 pub struct Walk {
     last: String,
@@ -102,21 +101,22 @@ impl Walk {
     }
 }
 
-/// The least path of a file below a root that is greater than the path `after`.
-pub fn next_file<R: Files + AllocGlobal + Clone + Drop>(
+/// The least path of a file of a tree that is greater than the path `after`.
+pub fn next_file<T: Tree>(
     walk: &mut Walk,
-    root: &Root<R>,
+    tree: &mut T,
+    alloc: Global,
     after: &str,
 ) -> io::Result<Option<String>>
     ensures { IfOk result (λ found. IfSome found (λ path. IsFileAbove after.now (string_bytes path))) }
 {
-    let mut spot = walk.begin(root.alloc, after)?;
+    let mut spot = walk.begin(alloc, after)?;
     for _ in 0..u64::MAX {
-        match walk.step(root.alloc, &mut spot)? {
-            Step::Unread => walk.add(Listing::read(root, spot.folder())?)?,
+        match walk.step(alloc, &mut spot)? {
+            Step::Unread => walk.add(Listing::read(tree, alloc, spot.folder())?)?,
             Step::Folder => {}
             Step::End(found) => {
-                walk.remember(root.alloc, &found)?;
+                walk.remember(alloc, &found)?;
                 return Ok(found);
             }
         }

@@ -1,4 +1,4 @@
-use Rattle.std.proofs.Common.{rules, ◌≡◌, ◌↔◌, IsTrue, take, drop, length, sym, ◌∙◌, arith}
+use Rattle.std.proofs.Common.{rules}
 use Rattle.zot_outside.proofs.WholeLemmas.{compared}
 use Rattle.zot_outside.proofs.stores.whole.has_piece.Goals as goal
 

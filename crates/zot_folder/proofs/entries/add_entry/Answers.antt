@@ -1,7 +1,7 @@
 use Rattle.std.proofs.Common.{string_bytes}
 use Rattle.zot_folder.proofs.FolderLemmas.{All-added}
 use Rattle.zot_folder.specs.Listing.{IsChild}
-use Rattle.zot_folder.proofs.listing.add_entry.Goals as goal
+use Rattle.zot_folder.proofs.entries.add_entry.Goals as goal
 
 pub returns-in_ok-add-in-Ok : goal.returns-in_ok-add-in-Ok
 returns-in_ok-add-in-Ok g c =

@@ -1,6 +1,6 @@
 use Rattle.std.proofs.Common.{All, string_bytes}
 use Rattle.zot_folder.specs.Listing.{IsChild}
-use Rattle.zot_folder.proofs.listing.paths_of.Given as goal
+use Rattle.zot_folder.proofs.entries.paths_of.Given as goal
 
 -- each path so far is that of a file or a folder in the folder
 abbrev pub invariant-loop-entry : goal.invariant-loop-entry

@@ -1,6 +1,6 @@
 use Rattle.std.proofs.Common.{◌≢◌, All, subst, sym}
 use Rattle.zot_folder.proofs.FolderLemmas.{child_found, name_without_slash}
-use Rattle.zot_folder.proofs.listing.path_of.Goals as goal
+use Rattle.zot_folder.proofs.entries.path_of.Goals as goal
 
 pub returns-in_ok-marked-in-Some-clause-child : goal.returns-in_ok-marked-in-Some-clause-child
 returns-in_ok-marked-in-Some-clause-child g c =

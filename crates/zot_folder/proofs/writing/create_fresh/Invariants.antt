@@ -1,0 +1,7 @@
+use Rattle.zot_folder.specs.Trees.{objects_of}
+use Rattle.zot_outside.specs.Objects.{Keeps}
+use Rattle.zot_folder.proofs.writing.create_fresh.Given as goal
+
+-- no object changed
+abbrev pub invariant-loop-number : goal.invariant-loop-number
+invariant-loop-number g l = Keeps (objects_of (g.T.Tree.files l.initial.tree)) (objects_of (g.T.Tree.files l.tree))
