@@ -29,6 +29,11 @@ pub fn folder(rt: HostRuntime, case: &Case, answer: &mut Answer) {
     );
 }
 
+/// The same of one store alone, whose listing needn't show what another store does meanwhile.
+pub fn alone(rt: HostRuntime, case: &Case, answer: &mut Answer) {
+    run(rt, case, answer, false);
+}
+
 // Adds the answers to a script of a store, or of two over one root that take turns.
 fn run(rt: HostRuntime, case: &Case, answer: &mut Answer, in_turns: bool) {
     let (Some(one), Some(other)) = (new_store(rt, case.name), new_store(rt, case.name)) else {

@@ -23,6 +23,7 @@ fn call(rt: HostRuntime, case: &Case, answer: &mut Answer) {
     match case.call {
         "alike" => folders::alike(rt, case, answer),
         "folder" => folders::folder(rt, case, answer),
+        "alone" => folders::alone(rt, case, answer),
         "memory" => scripts::answers(answer, &mut SteadyStore::new(rt.alloc()), given),
         "failing" => memory::failing(answer, given),
         "clock" => memory::clock(answer, given),

@@ -60,25 +60,25 @@ impl<T: Tree> Store for FolderStore<T> {
     }
 
     fn put(&mut self, alloc: Global, path: &str, bytes: &[u8]) -> StoreResult<()> {
-        self.walk.forget();
+        self.walk.note(path);
         let written = write_object(&mut self.tree, alloc, path, Content::Bytes(bytes));
         done(&mut self.faults, written)
     }
 
     fn append(&mut self, alloc: Global, path: &str, bytes: &[u8]) -> StoreResult<()> {
-        self.walk.forget();
+        self.walk.note(path);
         let extended = extend_object(&mut self.tree, alloc, path, bytes);
         done(&mut self.faults, extended)
     }
 
     fn copy(&mut self, alloc: Global, from: &str, to: &str) -> StoreResult<()> {
-        self.walk.forget();
+        self.walk.note(to);
         let copied = copy_object(&mut self.tree, alloc, from, to);
         found(&mut self.faults, copied)
     }
 
     fn delete(&mut self, alloc: Global, path: &str) -> StoreResult<()> {
-        self.walk.forget();
+        self.walk.note(path);
         let removed = remove_object(&mut self.tree, alloc, path);
         found(&mut self.faults, removed)
     }

@@ -14,6 +14,7 @@ use std::io;
 pub struct Listing {
     folder: String,
     paths: Vec<String>,
+    stale: bool,
     ghost ordered: { IsSorted string_cmp paths.items } by { Prim.hlevel props },
 }
 
@@ -38,7 +39,11 @@ impl Listing {
         let mut paths = paths;
         paths.as_mut_slice().sort_unstable();
         let folder = String::from_str(alloc, folder)?;
-        Ok(Listing { folder, paths })
+        Ok(Listing {
+            folder,
+            paths,
+            stale: false,
+        })
     }
 
     /// Whether it is the listing of this folder.
@@ -46,6 +51,18 @@ impl Listing {
         ensures { IsTrue result ↔ (string_bytes self.now.folder ≡ folder.now) }
     {
         self.folder.as_str() == folder
+    }
+
+    /// Whether a change lies in the folder since it was read.
+    pub fn is_stale(&self) -> bool {
+        self.stale
+    }
+
+    /// Notes that the file of a path changes. The listing is stale then if the path lies in its folder, or below that.
+    pub fn note(&mut self, path: &str) {
+        if lies_below(path, self.folder.as_str()) {
+            self.stale = true;
+        }
     }
 
     /// A copy of the least path that is greater than a bound.
@@ -64,5 +81,16 @@ impl Listing {
     {
         let paths = self.paths.as_slice();
         paths.get(paths.partition_point(|path| path.as_str() <= bound))
+    }
+}
+
+// Whether a path lies below a folder. All lie below the root.
+fn lies_below(path: &str, folder: &str) -> bool {
+    if folder.is_empty() {
+        return true;
+    }
+    match path.strip_prefix(folder) {
+        Some(rest) => rest.starts_with('/'),
+        None => false,
     }
 }

@@ -14,10 +14,10 @@ use std::alloc::{AllocError, Global};
 use std::io;
 use std::io::ErrorKind;
 
-/// A walk through the files of a tree. While it goes on from the path that it found last, it reads each folder once.
+/// A walk through the files of a tree. While it goes on from a path that isn't less than the last one, it reads each folder once. What changes up to there changes nothing of what is to come, and a change behind it makes the walk read again only the folders that the change lies in.
 #[derive(Drop)]
 pub struct Walk {
-    last: String,
+    since: String,
     listings: Vec<Listing>,
 }
 
@@ -27,25 +27,28 @@ impl Walk {
         ensures { result.listings.items ≡ [] }
     {
         Walk {
-            last: String::new(alloc),
+            since: String::new(alloc),
             listings: Vec::new(alloc),
         }
     }
 
-    /// Forgets what was read.
-    pub fn forget(&mut self)
-        ensures { self.new.listings.items ≡ [] }
-    {
-        self.listings.clear();
+    /// Notes that the file of a path is about to change.
+    pub fn note(&mut self, path: &str) {
+        if path > self.since.as_str() {
+            for at in 0..self.listings.len() {
+                self.listings[at].note(path);
+            }
+        }
     }
 
-    // Where the search for the path after one begins. What was read is forgotten, unless the walk goes on from the path that it found last.
+    // Where the search for the path after one begins. What was read is forgotten if the walk goes back.
     fn begin(&mut self, alloc: Global, after: &str) -> Result<Spot, AllocError>
         ensures { IfOk result (λ spot. string_bytes spot.bound ≡ after.now) }
     {
-        if self.last.as_str() != after {
-            self.forget();
+        if after < self.since.as_str() {
+            self.listings.clear();
         }
+        self.reach(alloc, after)?;
         Spot::at(alloc, after)
     }
 
@@ -63,19 +66,21 @@ impl Walk {
         }
     }
 
-    // Where the listing of a folder stands that is held. Those that were read after it are dropped.
+    // Where the listing of a folder stands that is held. Those that were read after it are dropped, and so is one that is out of date.
     fn held(&mut self, folder: &str) -> Option<usize>
         ensures within { IfSome result (λ at. at < vec_len self.new.listings) }
         ensures folder { IfSome result (λ at. HoldsAt (λ (listing : Listing). string_bytes listing.folder ≡ folder.now) self.new.listings.items at) }
     {
-        let held = self
+        let at = self
             .listings
             .iter()
-            .position(|listing| listing.is_of(folder));
-        if let Some(at) = held {
-            self.listings.truncate(at + 1);
+            .position(|listing| listing.is_of(folder))?;
+        if self.listings[at].is_stale() {
+            self.listings.truncate(at);
+            return None;
         }
-        held
+        self.listings.truncate(at + 1);
+        Some(at)
     }
 
     // A copy of the least path in a listing that is greater than a bound.
@@ -92,10 +97,10 @@ impl Walk {
         Ok(self.listings.push(listing)?)
     }
 
-    // Keeps the path that was found last.
-    fn remember(&mut self, alloc: Global, found: &Option<String>) -> Result<(), AllocError> {
-        if let Some(path) = found {
-            self.last = String::from_str(alloc, path.as_str())?;
+    // Keeps how far the walk has come.
+    fn reach(&mut self, alloc: Global, path: &str) -> Result<(), AllocError> {
+        if self.since.as_str() != path {
+            self.since = String::from_str(alloc, path)?;
         }
         Ok(())
     }
@@ -116,7 +121,9 @@ pub fn next_file<T: Tree>(
             Step::Unread => walk.add(Listing::read(tree, alloc, spot.folder())?)?,
             Step::Folder => {}
             Step::End(found) => {
-                walk.remember(alloc, &found)?;
+                if let Some(path) = &found {
+                    walk.reach(alloc, path.as_str())?;
+                }
                 return Ok(found);
             }
         }
