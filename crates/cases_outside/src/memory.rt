@@ -4,7 +4,8 @@ use zot_cases::{Answer, cut, number, word};
 use zot_fakes::{HandClock, MemoryStore};
 use zot_outside::Clock;
 
-/// `NUMBERS PATH=BYTES,..; SCRIPT`: the answers of a store of these objects whose calls of these numbers fail.
+/// `NUMBERS PATH=BYTES,..; SCRIPT`: the answers of a store of these objects whose calls of these numbers fail, how many calls
+/// were made, each object that it has then, and how many calls were made.
 pub fn failing(answer: &mut Answer, given: &str) {
     let (made, script) = cut(given, "; ");
     let failing = answer.numbers(word(made, 0));
@@ -16,6 +17,30 @@ pub fn failing(answer: &mut Answer, given: &str) {
     }
     if let Ok(mut store) = MemoryStore::new(answer.alloc(), objects, failing) {
         answers(answer, &mut store, script);
+        answer.begin();
+        answer.show(&store.calls());
+        look(answer, &store);
+        answer.begin();
+        answer.show(&store.calls());
+    }
+}
+
+// Adds each object of a store, of which there are less than 9.
+fn look(answer: &mut Answer, store: &MemoryStore) {
+    let alloc = answer.alloc();
+    let mut path = String::new(alloc);
+    for _ in 0..9 {
+        let Ok(Some(next)) = store.path_after(alloc, path.as_str()) else {
+            return;
+        };
+        path = answer.text_of(next.as_str());
+        answer.begin();
+        answer.say(path.as_str());
+        answer.say("=");
+        match store.object(alloc, path.as_str()) {
+            Ok(Some(bytes)) => answer.write(bytes.as_slice()),
+            _ => answer.fail("no object"),
+        }
     }
 }
 

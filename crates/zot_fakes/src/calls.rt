@@ -33,6 +33,13 @@ impl Calls {
         }
     }
 
+    /// How many calls were made.
+    pub fn made(&self) -> u64
+        ensures { result ≡ self.now.made }
+    {
+        self.made
+    }
+
     /// Counts a call, and answers whether it is to fail. If so it counts a fault too.
     pub fn next_fails(&mut self) -> bool
         ensures answer { result ≡ fails self.old }

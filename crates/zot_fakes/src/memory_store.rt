@@ -1,5 +1,6 @@
 //! A store in memory that fails by a list.
-ghost use Rattle.std.specs.Prelude.{◌≡◌, ◌≤◌, IfOk, OnErr, OnOk, Some, map as each, option_map, string_bytes};
+ghost use Rattle.std.specs.Prelude.{◌≡◌, ◌≤◌, IfOk, OnErr, OnOk, Some, map as each, option_copied, option_map, string_bytes};
+ghost use Rattle.std.specs.FinMap as map;
 ghost use Rattle.zot_fakes.specs.Calls.{ByList};
 ghost use Rattle.zot_fakes.specs.Given.{objects_of};
 ghost use Rattle.zot_outside.specs.Faults.{HasStoreCause, OnMissing, Rose};
@@ -8,6 +9,7 @@ ghost use Rattle.zot_outside.specs.Objects.{Copies, Deletes, Extends, Follows, H
 use crate::calls::Calls;
 use crate::steady_store::SteadyStore;
 use std::alloc::{AllocError, Global};
+use zot_digest::{Bytes, Words};
 use zot_outside::{Failed, Store, StoreError, StoreResult};
 
 /// A store in memory that tells its objects, and fails exactly the calls of a list.
@@ -33,6 +35,27 @@ impl MemoryStore {
             store: SteadyStore::of(alloc, objects)?,
             calls: Calls::new(failing),
         })
+    }
+
+    /// How many calls were made of the store. The count stops at 2^64 - 1.
+    pub fn calls(&self) -> u64
+        ensures { result ≡ (memory_calls self.now).made }
+    {
+        self.calls.made()
+    }
+
+    /// A look at the object of a path, which is no call of the store. It fails only where memory runs out.
+    pub fn object(&self, alloc: Global, path: &str) -> Result<Option<&Bytes>, AllocError>
+        ensures { IfOk result (λ found. option_copied found ≡ map.get (memory_objects self.now) path.now) }
+    {
+        self.store.object(alloc, path)
+    }
+
+    /// A look at the least path of an object that is greater than a path, which is no call of the store. It fails only where memory runs out.
+    pub fn path_after(&self, alloc: Global, after: &str) -> Result<Option<&Words>, AllocError>
+        ensures { IfOk result (λ found. Follows (Some (memory_objects self.now)) after.now (option_copied found)) }
+    {
+        self.store.path_after(alloc, after)
     }
 }
 

@@ -1,11 +1,12 @@
 //! A store in memory that never fails.
-ghost use Rattle.std.specs.Prelude.{◌≡◌, ◌<◌, ◌^◌, ◌≤◌, IfOk, OnErr, OnOk, length, drop, map as each, min, string_bytes, take};
+ghost use Rattle.std.specs.Prelude.{◌≡◌, ◌<◌, ◌^◌, ◌≤◌, IfOk, OnErr, OnOk, length, drop, map as each, min, option_copied, string_bytes, take, Some};
 ghost use Rattle.std.specs.FinMap as map;
 ghost use Rattle.zot_fakes.specs.Given.{objects_of};
+ghost use Rattle.zot_outside.specs.Objects.{Follows};
 
 use crate::object_map::ObjectMap;
 use std::alloc::{AllocError, Global};
-use zot_digest::Bytes;
+use zot_digest::{Bytes, Words};
 use zot_outside::{Failed, Store, StoreError, StoreResult};
 
 /// A store in memory that never fails: its count of faults stays 0. It tells its objects.
@@ -38,6 +39,20 @@ impl SteadyStore {
         let objects = ObjectMap::of(alloc, objects)?;
         prove!(objects.len() <= isize::MAX as usize);
         Ok(SteadyStore { objects })
+    }
+
+    /// A look at the object of a path, which is no call of the store. It fails only where memory runs out.
+    pub fn object(&self, alloc: Global, path: &str) -> Result<Option<&Bytes>, AllocError>
+        ensures { IfOk result (λ found. option_copied found ≡ map.get (steady_objects self.now) path.now) }
+    {
+        self.objects.get(alloc, path)
+    }
+
+    /// A look at the least path of an object that is greater than a path, which is no call of the store. It fails only where memory runs out.
+    pub fn path_after(&self, alloc: Global, after: &str) -> Result<Option<&Words>, AllocError>
+        ensures { IfOk result (λ found. Follows (Some (steady_objects self.now)) after.now (option_copied found)) }
+    {
+        self.objects.next(alloc, after)
     }
 }
 
