@@ -1,13 +1,15 @@
 //! The adapters over the real things: a large file, streams, the system's clock and sockets.
 use std::alloc::Global;
-use std::fs;
 use std::io::{Read, Write};
 use std::net::{TcpListener, TcpStream};
 use std::test::Fail;
+use std::thread::Threads;
+use std::{fs, thread};
+use zot_fakes::{MemorySink, MemorySource, MemoryStore, SteadySource, SteadyStore};
 use zot_folder::{Disk, FolderStore};
 use zot_outside::{
     Accepted, BindError, Clock, Gate, Listener, OpenGate, Point, ReaderSource, Sink, Source, Store,
-    StoreError, SystemClock, TcpListeners, WriterSink,
+    StoreError, SystemClock, TcpListeners, WriterSink, has_bytes,
 };
 
 /// A store over a new folder in the test's own folder.
@@ -166,5 +168,64 @@ fn loopback(rt: HostRuntime) -> Result<(), Fail> {
     assert!(rt; bound(rt, addresses.as_slice()).err() == Some(BindError::Failed));
     addresses.push(String::from_str(rt.alloc(), "nowhere")?)?;
     assert!(rt; bound(rt, &addresses[2..]).err() == Some(BindError::Failed));
+    Ok(())
+}
+
+/// Whether a store that was moved into a thread takes an object there, and a whole read finds it here.
+fn serves_a_thread<R: Threads, S: Store + Send + Drop + 'static>(
+    rt: &R,
+    alloc: Global,
+    store: S,
+) -> Result<bool, Fail> {
+    let mut store = store;
+    let thread = thread::spawn(rt, move || {
+        let put = store.put(alloc, "a", b"abc").is_ok();
+        (store, put)
+    });
+    let (mut store, put) = thread.map_err(|_| "no thread")?.join(rt);
+    Ok(put && has_bytes(&mut store, alloc, "a", b"abc")?)
+}
+
+/// Whether a source that was moved into a thread gives three bytes there.
+fn gives_a_thread<R: Threads, S: Source + Send + Drop + 'static>(
+    rt: &R,
+    source: S,
+) -> Result<bool, Fail> {
+    let mut source = source;
+    let thread = thread::spawn(rt, move || source.read(&mut [0u8; 3]) == Ok(3));
+    Ok(thread.map_err(|_| "no thread")?.join(rt))
+}
+
+/// Whether a sink that was moved into a thread takes three bytes there.
+fn takes_of_a_thread<R: Threads, S: Sink + Send + Drop + 'static>(
+    rt: &R,
+    sink: S,
+) -> Result<bool, Fail> {
+    let mut sink = sink;
+    let thread = thread::spawn(rt, move || sink.write(b"abc") == Ok(3));
+    Ok(thread.map_err(|_| "no thread")?.join(rt))
+}
+
+#[test]
+fn each_serves_a_thread(rt: HostRuntime) -> Result<(), Fail> {
+    let alloc = rt.alloc();
+    assert!(rt; serves_a_thread(&rt, alloc, fresh_folder(rt, "each_serves_a_thread")?)?);
+    assert!(rt; serves_a_thread(&rt, alloc, SteadyStore::new(alloc))?);
+    assert!(rt;
+        serves_a_thread(
+            &rt,
+            alloc,
+            MemoryStore::new(alloc, Vec::new(alloc), Vec::new(alloc))?
+        )?
+    );
+    fs::remove_dir_all(&rt, "each_serves_a_thread")?;
+    assert!(rt; takes_of_a_thread(&rt, WriterSink::new(fs::create(&rt, "thread")?))?);
+    assert!(rt; takes_of_a_thread(&rt, MemorySink::new(alloc, Vec::new(alloc)))?);
+    assert!(rt; gives_a_thread(&rt, ReaderSource::new(fs::open(&rt, "thread")?))?);
+    fs::remove_file(&rt, "thread")?;
+    let bytes = Vec::from_slice(alloc, b"abc")?;
+    assert!(rt; gives_a_thread(&rt, SteadySource::new(bytes))?);
+    let bytes = Vec::from_slice(alloc, b"abc")?;
+    assert!(rt; gives_a_thread(&rt, MemorySource::new(bytes, 4, Vec::new(alloc)))?);
     Ok(())
 }
