@@ -14,6 +14,6 @@ returns-in-Ok c = λ moment.
     let pushed = all_pushed (size_of inside.blobs) inside.manifests.manifests in
     let same : pushed ≡ pushed_in c.args.self.now = pushed_same inside.known inside.blobs inside.manifests inside.sessions c.self.invariant.0 ∙ ap pushed_in c.self.view_is in
     let text = c.new.ensures ∙ ap (λ (v : Vec ℕ Global). v.items) c.into_bytes.ensures.value ∙ c.in-Ok.ensures ∙ ap (referrers_text pushed c.args.digest.now) c.text_of-wanted.ensures
-        ∙ ap (λ (p : List Pushed). referrers_text p c.args.digest.now c.args.filter.now) same in
+    ∙ ap (λ (p : List Pushed). referrers_text p c.args.digest.now c.args.filter.now) same in
     referrers_given moment c.args.self.now c.args.digest.now c.args.filter.now _
     (ap (λ (t : List ℕ). Referrers t c.is_some.result) text ∙ ap (Referrers (referrers_text (pushed_in c.args.self.now) c.args.digest.now c.args.filter.now)) c.is_some.ensures)

@@ -16,9 +16,10 @@ on_err (Err e) h = h
 pub invariant_of-self-in_err-set : goal.invariant_of-self-in_err-set
 invariant_of-self-in_err-set c =
     let again = c.in_ok-reread.ensures.ok ∙ ap (rereads c.self.inside.manifests c.args.digest) c.as_slice.ensures in
-    let same = not_reread c.self.inside.manifests c.self.inside.blobs c.args.digest c.args.bytes c.reread.new.manifests again c.self.invariant.0 c.in_err-set.ensures.absent in
-    (subst (λ (t : Table). AreRead t.manifests c.set.new.self) (sym same) (subst (λ (b : ByteMap Stored). AreRead c.self.inside.manifests.manifests b) (sym c.in_err-set.ensures.err) c.self.invariant.0),
-    c.reread.ensures.lists c.self.invariant.1)
+    let same = not_reread c.self.inside.manifests c.self.inside.blobs c.args.digest c.args.bytes c.reread.new.manifests again c.self.invariant.0 c.in_err-set.ensures.absent in (
+      subst (λ (t : Table). AreRead t.manifests c.set.new.self) (sym same) (subst (λ (b : ByteMap Stored). AreRead c.self.inside.manifests.manifests b) (sym c.in_err-set.ensures.err) c.self.invariant.0),
+      c.reread.ensures.lists c.self.invariant.1,
+    )
 
 pub returns-in_err-set-clause-err : goal.returns-in_err-set-clause-err
 returns-in_err-set-clause-err c =
@@ -30,10 +31,11 @@ returns-in_err-set-clause-err c =
 
 pub invariant_of-self-2 : goal.invariant_of-self-2
 invariant_of-self-2 c =
-    let again = c.in_ok-reread.ensures.ok ∙ ap (rereads c.self.inside.manifests c.args.digest) c.as_slice.ensures in
-    (reads_put c.self.inside.manifests c.self.inside.blobs c.args.digest c.args.bytes c.reread.new.manifests c.set.new.self c.args.moment again
-    (c.in_ok-set.ensures.ok ∙ ap (map.insert c.self.inside.blobs c.args.digest) c.new.ensures) c.self.invariant.0,
-    c.reread.ensures.lists c.self.invariant.1)
+    let again = c.in_ok-reread.ensures.ok ∙ ap (rereads c.self.inside.manifests c.args.digest) c.as_slice.ensures in (
+      reads_put c.self.inside.manifests c.self.inside.blobs c.args.digest c.args.bytes c.reread.new.manifests c.set.new.self c.args.moment again
+          (c.in_ok-set.ensures.ok ∙ ap (map.insert c.self.inside.blobs c.args.digest) c.new.ensures) c.self.invariant.0,
+      c.reread.ensures.lists c.self.invariant.1,
+    )
 
 pub returns-clause-ok : goal.returns-clause-ok
 returns-clause-ok c =
