@@ -1,15 +1,19 @@
 -- The requests of a connection are entries of the row's history.
-use Rattle.std.proofs.Common.{◌≡◌, ℕ, List, [], ◌∷◌, ◌++◌, Option, Some, None, refl, sym, ap, ◌∙◌, subst}
+use Rattle.std.proofs.Common.{◌≡◌, ◌≢◌, inl, inr, ℕ, List, [], ◌∷◌, ◌++◌, Option, Some, None, refl, sym, ap, ◌∙◌, subst}
+use Rattle.std.specs.Prelude.{IsSomeAnd}
 use Rattle.zot_history.proofs.Runs.{run_append, run_from}
 use Rattle.zot_model.proofs.HistoryLemmas.{same_alike, same_itself}
 use Rattle.zot_model.specs.declared.reply.Reply.{Reply}
 use Rattle.zot_model.specs.declared.request.Request.{Request}
-use Rattle.zot_model.specs.History.{Entry, Run, Step}
+use Rattle.zot_model.specs.declared.call.Call.{Call}
+use Rattle.zot_model.specs.History.{Entry, Event, Happens, Run, Step, asked}
+use Rattle.zot_model.specs.Plain.{GoesWithoutFault, IsPlain, MayAnswer}
+use Rattle.zot_model.specs.Refusals.{no_memory}
 use Rattle.zot_model.specs.State.{AreSame, RowState}
 use Rattle.zot_outside.proofs.MomentLemmas.{at_before, stays_itself, stays_through}
 use Rattle.zot_outside.specs.Moments.{IsAt, StaysAt}
 use Rattle.zot_session.specs.Exchanges.{Conducts, Exchange, answered, declined}
-use Rattle.zot_commands.specs.Entries.{AnswersOver, AreEntries, AreOf, Records, StandBefore}
+use Rattle.zot_commands.specs.Entries.{AllHadMemory, AnswersOver, AreEntries, AreOf, HadMemory, HappensPlainly, PlainRun, Records, StandBefore}
 
 -- ---- what the clock tells
 
@@ -28,21 +32,40 @@ entries_before told later (answered message request reply ∷ exchanges) entries
     before_by told later request.name request reply (AreEntries later exchanges) (AreEntries told exchanges) entries h (λ others. entries_before told later exchanges others h) k
 entries_before told later (declined message reply ∷ exchanges) entries h k = entries_before told later exchanges entries h k
 
+-- ---- answers of the plain registry
+
+plain_happens : (name : Option (List ℕ)) (moment : ℕ) (old new : RowState) (call : Call) (reply : Reply) → IsSomeAnd name (λ one. MayAnswer moment old one call reply new) → reply ≢ no_memory
+    → IsSomeAnd name (λ one. GoesWithoutFault (λ repo after. IsPlain moment repo call reply after) old one new)
+plain_happens None moment old new call reply h had = h
+plain_happens (Some name) moment old new call reply (inl plain) had = plain
+plain_happens (Some name) moment old new call reply (inr lacks) had = absurd (had lacks.way.reply_is)
+
+plain_step : (event : Event) (moment : ℕ) (old new : RowState) → Happens old moment event new → HadMemory event → HappensPlainly old moment event new
+plain_step (asked request reply) moment old new h had = plain_happens request.name moment old new request.call reply h had
+
+-- where no entry of a run says that memory ran out, each is the plain registry's answer
+plain_run : (old new : RowState) (entries : List Entry) → Run old entries new → AllHadMemory entries → PlainRun old entries new
+plain_run old new [] h had = h
+plain_run old new (entry ∷ entries) h had = (h.0, (plain_step entry.event entry.moment old h.0 h.1.happens had.0, h.1.faults), plain_run h.0 new entries h.2 had.1)
+
+records : (told : Option ℕ) (old new : RowState) (exchanges : List Exchange) (entries : List Entry) → AreEntries told exchanges entries → Run old entries new → Records told old exchanges new
+records told old new exchanges entries own run = record { entries = entries; own = own; run = run; complete = plain_run old new entries run }
+
 -- ---- runs
 
 -- a request's entries and then those of a run
 records_over : (name : Option (List ℕ)) (told : Option ℕ) (old mid new : RowState) (request : Request) (reply : Reply) (exchanges : List Exchange) → AnswersOver name told old request reply mid → Records told mid exchanges new
     → (entries : List Entry) × StandBefore name (AreOf told request reply) (AreEntries told exchanges) entries × Run old entries new
-records_over None told old mid new request reply exchanges asked ran = (ran.0, ran.1, run_from AreSame Step same_alike old mid new ran.0 asked.1 ran.2)
+records_over None told old mid new request reply exchanges asked ran = (ran.entries, ran.own, run_from AreSame Step same_alike old mid new ran.entries asked.1 ran.run)
 records_over (Some name) told old mid new request reply exchanges asked ran = (
-  asked.2.entries ++ ran.0,
-  (asked.2.entries, ran.0, (asked.0, asked.1, asked.2.stand), ran.1, refl),
-  run_append AreSame Step same_alike old mid new asked.2.entries ran.0 asked.2.run ran.2,
+  asked.2.entries ++ ran.entries,
+  (asked.2.entries, ran.entries, (asked.0, asked.1, asked.2.stand), ran.own, refl),
+  run_append AreSame Step same_alike old mid new asked.2.entries ran.entries asked.2.run ran.run,
 )
 
 -- the same of a run
 records_before : (told later : Option ℕ) (old new : RowState) (exchanges : List Exchange) → StaysAt told later → Records later old exchanges new → Records told old exchanges new
-records_before told later old new exchanges h ran = (ran.0, entries_before told later exchanges ran.0 h ran.1, ran.2)
+records_before told later old new exchanges h ran = records told old new exchanges ran.entries (entries_before told later exchanges ran.entries h ran.own) ran.run
 
 -- what answers from a borrowed table and clock: what the clock tells, the table's state, and which table and clock they are
 module _ {A N M : Type 0} (told : A → Option ℕ) (row : A → RowState) (table : A → N) (clock : A → M) where
@@ -54,14 +77,17 @@ module _ {A N M : Type 0} (told : A → Option ℕ) (row : A → RowState) (tabl
   abbrev pub Ran : A → List Exchange → A → Type 0
   Ran old exchanges new = Records (told old) (row old) exchanges (row new) × StaysAt (told old) (told new) × (table new ≡ table old) × (clock new ≡ clock old)
 
+  recorded : (exchanges : List Exchange) (old new : A) → ((entries : List Entry) × AreEntries (told old) exchanges entries × Run (row old) entries (row new)) → Records (told old) (row old) exchanges (row new)
+  recorded exchanges old new h = records (told old) (row old) (row new) exchanges h.0 h.1 h.2
+
   -- the exchanges of a connection make a run of the table
   pub conducts_run : (old new : A) (exchanges : List Exchange) → Conducts AnswersOne old exchanges new → Ran old exchanges new
-  conducts_run old new [] h = (([], refl, subst (λ a. AreSame (row old) (row a)) (sym h) (same_itself (row old))), subst (λ a. StaysAt (told old) (told a)) (sym h) (stays_itself (told old)), ap table h, ap clock h)
+  conducts_run old new [] h = (records (told old) (row old) (row new) [] [] refl (subst (λ a. AreSame (row old) (row a)) (sym h) (same_itself (row old))), subst (λ a. StaysAt (told old) (told a)) (sym h) (stays_itself (told old)), ap table h, ap clock h)
   conducts_run old new (answered message request reply ∷ exchanges) h =
       let ran = conducts_run h.0 new exchanges h.2 in (
-        records_over request.name (told old) (row old) (row h.0) (row new) request reply exchanges h.1.0 (records_before (told old) (told h.0) (row h.0) (row new) exchanges h.1.1 ran.0),
+        recorded (answered message request reply ∷ exchanges) old new (records_over request.name (told old) (row old) (row h.0) (row new) request reply exchanges h.1.0 (records_before (told old) (told h.0) (row h.0) (row new) exchanges h.1.1 ran.0)),
         stays_through (told old) (told h.0) (told new) h.1.1 ran.1,
         ran.2 ∙ h.1.2,
         ran.3 ∙ h.1.3,
       )
-  conducts_run old new (declined message reply ∷ exchanges) h = conducts_run old new exchanges h
+  conducts_run old new (declined message reply ∷ exchanges) h = let ran = conducts_run old new exchanges h in (records (told old) (row old) (row new) (declined message reply ∷ exchanges) ran.0.entries ran.0.own ran.0.run, ran.1, ran.2, ran.3)

@@ -1,11 +1,15 @@
 -- The entries that a connection's requests make in a row's history.
-use Rattle.std.specs.Prelude.{◌≡◌, ℕ, List, [], ◌∷◌, ◌++◌, Option, Some, None}
+use Rattle.std.specs.Prelude.{◌≡◌, ◌≢◌, ℕ, List, [], ◌∷◌, ◌++◌, Option, Some, None, IsSomeAnd}
+use Rattle.std.specs.List.{AllByRecursion}
+use Rattle.zot_history.specs.Run.{RunTo}
 use Rattle.zot_model.specs.declared.reply.Reply.{Reply}
 use Rattle.zot_model.specs.declared.reply.Reply.TheVariants.{Base}
 use Rattle.zot_model.specs.declared.request.Request.{Request}
 use Rattle.zot_model.specs.declared.row.RowCall.TheVariants.{Ask}
 use Rattle.zot_model.specs.declared.row.RowReply.TheVariants as answers
-use Rattle.zot_model.specs.History.{Enters, Entry, Run, StandFor}
+use Rattle.zot_model.specs.History.{Enters, Entry, Event, Run, StandFor, asked}
+use Rattle.zot_model.specs.Plain.{GoesWithoutFault, IsPlain}
+use Rattle.zot_model.specs.Refusals.{no_memory}
 use Rattle.zot_model.specs.State.{AreSame, RowState}
 use Rattle.zot_outside.specs.Moments.{IsAt}
 use Rattle.zot_session.specs.Exchanges.{Exchange, answered, declined}
@@ -25,9 +29,30 @@ AreEntries told [] entries = entries ≡ []
 AreEntries told (answered message request reply ∷ exchanges) entries = StandBefore request.name (AreOf told request reply) (AreEntries told exchanges) entries
 AreEntries told (declined message reply ∷ exchanges) entries = AreEntries told exchanges entries
 
--- the entries of some exchanges lead from the old row to the new one
-abbrev pub Records : Option ℕ → RowState → List Exchange → RowState → Type 0
-Records told old exchanges new = (entries : List Entry) × AreEntries told exchanges entries × Run old entries new
+-- what happened is what the plain registry does by the first case that fits
+abbrev pub HappensPlainly : RowState → ℕ → Event → RowState → Type 0
+HappensPlainly old moment (asked request reply) new = IsSomeAnd request.name (λ name. GoesWithoutFault (λ repo after. IsPlain moment repo request.call reply after) old name new)
+
+abbrev pub PlainStep : RowState → Entry → RowState → Type 0
+PlainStep old entry new = HappensPlainly old entry.moment entry.event new × (entry.faults ≡ new.faults)
+
+-- each of the entries is such a step, one after another
+abbrev pub PlainRun : RowState → List Entry → RowState → Type 0
+PlainRun old entries new = RunTo AreSame PlainStep old entries new
+
+-- no entry says that memory ran out
+abbrev pub HadMemory : Event → Type 0
+HadMemory (asked request reply) = reply ≢ no_memory
+
+abbrev pub AllHadMemory : List Entry → Type 0
+AllHadMemory entries = AllByRecursion (λ entry. HadMemory entry.event) entries
+
+-- the entries of some exchanges lead from the old row to the new one; where none says that memory ran out, each is the plain registry's answer
+pub record Records (told : Option ℕ) (old : RowState) (exchanges : List Exchange) (new : RowState) : Type 0 where
+  pub entries : List Entry
+  pub own : AreEntries told exchanges entries
+  pub run : Run old entries new
+  pub complete : AllHadMemory entries → PlainRun old entries new
 
 -- a request was answered over a row. If it names a repository, entries stand for it, at the moment that the clock tells; else the reply is the base route's, and the row stays
 abbrev pub AnswersOver : Option (List ℕ) → Option ℕ → RowState → Request → Reply → RowState → Type 0
