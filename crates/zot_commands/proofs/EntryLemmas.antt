@@ -56,11 +56,11 @@ records told old new exchanges entries own run = record { entries = entries; own
 -- a request's entries and then those of a run
 records_over : (name : Option (List ℕ)) (told : Option ℕ) (old mid new : RowState) (request : Request) (reply : Reply) (exchanges : List Exchange) → AnswersOver name told old request reply mid → Records told mid exchanges new
     → (entries : List Entry) × StandBefore name (AreOf told request reply) (AreEntries told exchanges) entries × Run old entries new
-records_over None told old mid new request reply exchanges asked ran = (ran.entries, ran.own, run_from AreSame Step same_alike old mid new ran.entries asked.1 ran.run)
-records_over (Some name) told old mid new request reply exchanges asked ran = (
-  asked.2.entries ++ ran.entries,
-  (asked.2.entries, ran.entries, (asked.0, asked.1, asked.2.stand), ran.own, refl),
-  run_append AreSame Step same_alike old mid new asked.2.entries ran.entries asked.2.run ran.run,
+records_over None told old mid new request reply exchanges answer ran = (ran.entries, ran.own, run_from AreSame Step same_alike old mid new ran.entries answer.1 ran.run)
+records_over (Some name) told old mid new request reply exchanges answer ran = (
+  answer.2.entries ++ ran.entries,
+  (answer.2.entries, ran.entries, (answer.0, answer.1, answer.2.stand), ran.own, refl),
+  run_append AreSame Step same_alike old mid new answer.2.entries ran.entries answer.2.run ran.run,
 )
 
 -- the same of a run
