@@ -145,6 +145,11 @@ next_is : (b : Bool) (last : Option (List ℕ)) (next : List ℕ) → (if b then
 next_is true last next h = h
 next_is false last next h = cc h
 
+next_more : (b c : Bool) (last : Option (List ℕ)) (next : List ℕ) → (if b && c then last else None) ≡ Some next → c ≡ true
+next_more true true last next h = refl
+next_more true false last next h = cc h
+next_more false c last next h = cc h
+
 -- where it doesn't, nothing follows
 short : (n : ℕ) (tags : List (List ℕ)) → length tags ≤ n → take n tags ≡ tags
 short n [] h = take_none n where
@@ -193,6 +198,36 @@ module _ (tags : ByteMap StoredTag) (n : ℕ) (some : 0 < n) where
       ap (λ (p : Page). p.tags ++ joined (other ∷ pages)) h.0
       ∙ ap (λ l. take n (tags_after tags last) ++ l) (pages_join (Some h.1.0) (other ∷ pages) h.1.2 ∙ left last h.1.0 (ap (λ (p : Page). p.next) (sym h.0) ∙ h.1.1))
       ∙ take_drop n (tags_after tags last)
+
+  drop_short : (m : ℕ) (l : List (List ℕ)) → length (drop m l) ≤ length l
+  drop_short zero l = omega arith
+  drop_short (suc m) [] = omega arith
+  drop_short (suc m) (x ∷ l) = omega (arith, drop_short m l)
+
+  drop_less : (m : ℕ) (l : List (List ℕ)) → 0 < m → m < length l → length (drop m l) < length l
+  drop_less zero l h more = absurd (omega (arith, h))
+  drop_less (suc m) [] h more = absurd (omega (arith, more))
+  drop_less (suc m) (x ∷ l) h more = omega (arith, drop_short m l)
+
+  -- where a page says that more follow, fewer tags are left than before
+  fewer_left : (last : Option (List ℕ)) (next : List ℕ) → (page tags (Some n) last).next ≡ Some next → length (tags_after tags (Some next)) < length (tags_after tags last)
+  fewer_left last next h =
+      subst (λ l. length l < length (tags_after tags last)) (sym (left last next h))
+      (drop_less n (tags_after tags last) some (grind (arith, next_more (nat_lt 0 n) (nat_lt n (length (tags_after tags last))) (last_of (take n (tags_after tags last))) next h)))
+
+  one_more : (last : Option (List ℕ)) (next : List ℕ) → (page tags (Some n) last).next ≡ Some next → (pages : List Page) × ArePages tags n (Some next) pages → (pages : List Page) × ArePages tags n last pages
+  one_more last next is ([], h) = absurd h
+  one_more last next is (first ∷ pages, h) = (page tags (Some n) last ∷ first ∷ pages, (refl, (next, is, h)))
+
+  -- the pages, where at most so many tags are left
+  pages_left : (most : ℕ) (last next : Option (List ℕ)) → length (tags_after tags last) ≤ most → (page tags (Some n) last).next ≡ next → (pages : List Page) × ArePages tags n last pages
+  pages_left most last None few is = (page tags (Some n) last ∷ [], (refl, is))
+  pages_left zero last (Some next) few is = absurd (omega (arith, few, fewer_left last next is))
+  pages_left (suc most) last (Some next) few is =
+      one_more last next is (pages_left most (Some next) (page tags (Some n) (Some next)).next (omega (arith, few, fewer_left last next is)) refl)
+
+  pub pages_exist : (last : Option (List ℕ)) → (pages : List Page) × ArePages tags n last pages
+  pages_exist last = pages_left (length (tags_after tags last)) last (page tags (Some n) last).next (omega arith) refl
 
 -- the tags after none are all
 all_tags : (tags : List (List ℕ)) → filter (comes_after None) tags ≡ tags

@@ -39,8 +39,9 @@ pub fn needed_blobs_stay()
     ensures { (old new : RowState) (entry : Entry) (name : List ℕ) → Step old entry new → KeepsNeeded (repo_at old name) (repo_at new name) }
 {}
 
-/// The law that the pages of one list of tags, each asked by where the one before it says that the next one goes on, are the whole list, from its beginning or after any text.
+/// The law that the pages of one list of tags, each asked by where the one before it says that the next one goes on, come to an end and are the whole list, from its beginning or after any text.
 pub fn pages_are_the_list()
+    ensures exist { (tags : ByteMap StoredTag) (n : ℕ) (last : Option (List ℕ)) → 0 < n → (pages : List Page) × ArePages tags n last pages }
     ensures all { (tags : ByteMap StoredTag) (n : ℕ) (pages : List Page) → 0 < n → ArePages tags n None pages → joined pages ≡ map.keys tags }
     ensures after { (tags : ByteMap StoredTag) (n : ℕ) (last : Option (List ℕ)) (pages : List Page) → 0 < n → ArePages tags n last pages → joined pages ≡ tags_after tags last }
 {}
