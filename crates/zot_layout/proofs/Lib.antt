@@ -1,0 +1,4 @@
+pub mod MomentLemmas
+pub mod TagLemmas
+pub mod PlainLemmas
+pub mod TextLemmas

@@ -1,0 +1,6 @@
+pub mod Moments
+pub mod Notes
+pub mod State
+pub mod Text
+pub mod Reading
+pub mod Marker
