@@ -1,5 +1,5 @@
 -- What a store says of its objects, where it tells them.
-use Rattle.std.specs.Prelude.{◌≡◌, ◌≢◌, ℕ, ◌≤◌, List, [], ◌++◌, length, take, drop, filter, Option, Some, None, IsSome, IsSomeAnd, IfSome, MatchOption, option_map, unwrap_or}
+use Rattle.std.specs.Prelude.{◌≡◌, ◌≢◌, ℕ, ◌≤◌, List, [], ◌∷◌, ◌++◌, length, take, drop, filter, Option, Some, None, IsSome, IsSomeAnd, IfSome, MatchOption, option_map, unwrap_or}
 use Rattle.std.specs.declared.cmp.Ordering.{Ordering}
 use Rattle.std.specs.declared.cmp.Ordering.TheVariants.{Less}
 use Rattle.std.specs.Cmp.Lexicographic.{slice_cmp}
@@ -26,6 +26,11 @@ bytes_at objects path = unwrap_or (map.get objects path) []
 pub record ChangesAt (old : Objects) (path : List ℕ) (object : Option (List ℕ)) (new : Objects) : Type 0 where
   pub here : map.get new path ≡ object
   pub others : (other : List ℕ) → other ≢ path → map.get new other ≡ map.get old other
+
+-- calls at these paths, one after another, led from some objects to others
+abbrev pub ChangesAlong : Objects → List (List ℕ) → Objects → Type 0
+ChangesAlong old [] new = new ≡ old
+ChangesAlong old (path ∷ paths) new = (mid : Objects) × (object : Option (List ℕ)) × ChangesAt old path object mid × ChangesAlong mid paths new
 
 -- a call changed the objects in this way; a store that doesn't tell them still doesn't
 abbrev pub Makes : Option Objects → (Objects → Objects) → Option Objects → Type 0

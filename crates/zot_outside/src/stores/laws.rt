@@ -2,7 +2,7 @@
 ghost use Rattle.std.specs.Prelude.{◌≡◌, ◌≤◌, ◌↔◌, ℕ, List, [], ◌∷◌, ◌++◌, length, Contains, Option, Some, None, IsSome, IsSomeAnd, MatchOption};
 ghost use Rattle.std.specs.declared.cmp.Ordering.TheVariants.{Less};
 ghost use Rattle.std.specs.FinMap as map;
-ghost use Rattle.zot_outside.specs.Objects.{ChangesAt, Copies, Deletes, Extends, Follows, Objects, Puts, bytes_at, path_cmp, paths_after};
+ghost use Rattle.zot_outside.specs.Objects.{ChangesAlong, ChangesAt, Copies, Deletes, Extends, Follows, Objects, Puts, bytes_at, path_cmp, paths_after};
 
 /// `put` sets the object of its path, and leaves every other path.
 pub fn put_changes()
@@ -32,6 +32,18 @@ pub fn delete_changes()
 pub fn change_is_one()
     ensures { (old one other : Objects) (path : List ℕ) (object : Option (List ℕ)) → ChangesAt old path object one
         → ChangesAt old path object other → one ≡ other }
+{}
+
+/// Calls leave the object of each path that they weren't made at.
+pub fn calls_leave_others()
+    ensures { (old new : Objects) (paths : List (List ℕ)) (other : List ℕ) → ChangesAlong old paths new
+        → (Contains paths other → ⊥) → map.get new other ≡ map.get old other }
+{}
+
+/// Calls after calls are the calls of both lists.
+pub fn calls_join()
+    ensures { (old mid new : Objects) (first second : List (List ℕ)) → ChangesAlong old first mid → ChangesAlong mid second new
+        → ChangesAlong old (first ++ second) new }
 {}
 
 /// `next` lists the paths after one in their order: it finds the first of them, and the others are those after that one.

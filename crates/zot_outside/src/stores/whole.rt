@@ -46,8 +46,8 @@ fn fill_from<S: Store>(
     }
 }
 
-// What a call answers over a store whose answers contradict each other.
-fn contradicted<S: Store>(store: &mut S) -> StoreError
+/// What a call answers over a store whose answers contradict each other.
+pub fn contradicted<S: Store>(store: &mut S) -> StoreError
     requires { IsNone (S.objects store.old) }
     ensures cause { HasStoreCause {T = ℕ} (S.faults store.old) (S.faults store.new) (Err result) }
     ensures answer { result ≡ errors.Failed }
