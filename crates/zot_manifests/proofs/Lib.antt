@@ -2,3 +2,5 @@ pub mod CheckLemmas
 pub mod IndexLemmas
 pub mod TagLemmas
 pub mod TableLemmas
+pub mod SetLemmas
+pub mod TagIndexLemmas

@@ -1,10 +1,10 @@
 -- Tags in a tree, and pages of them.
-use Rattle.std.proofs.Common.{◌≡◌, ℕ, zero, suc, ◌-◌, ◌<◌, ◌≤◌, Bool, true, false, cond, not, List, [], ◌∷◌, ◌++◌, length, map, take, drop, Option, Some, None, refl, sym, ap, subst, ◌∙◌, arith, length-drop, if◌then◌else◌}
+use Rattle.std.proofs.Common.{◌≡◌, ℕ, zero, suc, ◌-◌, ◌<◌, ◌≤◌, Bool, true, false, cond, List, [], ◌∷◌, ◌++◌, length, map, take, drop, Option, Some, None, refl, sym, ap, subst, ◌∙◌, arith, length-drop, if◌then◌else◌}
 use Rattle.std.specs.Prelude.{◌&&◌, ◌^◌, IsSome, T, is_some, nat_lt, slice_get, unwrap_or}
 use Rattle.std.specs.BTreeMap.{BTreeMap, is_at}
 use Rattle.std.specs.BTreeMap.Range.{IsEntryInRange, entries_between, range_contains}
 use Rattle.std.specs.FinMap as finite
-use Rattle.std.specs.FinMap.{entries-from_sorted, get-empty, get-from_entries, get-from_sorted, get-insert, get-remove, get-retain_keys}
+use Rattle.std.specs.FinMap.{entries-from_sorted, get-empty, get-from_entries, get-from_sorted, get-insert, get-remove}
 use Rattle.std.specs.FinMap.Entries.{below_all, is_sorted}
 use Rattle.std.specs.Cmp.{Equal-is}
 use Rattle.std.specs.Cmp.Lexicographic.{nat_list_cmp_total}
@@ -12,18 +12,16 @@ use Rattle.std.specs.List.{All, AllByRecursion, filter}
 use Rattle.std.specs.List.Sorted.{IsStrictlySortedBy}
 use Rattle.std.specs.Map.{KeepsOthers, keys_of, lookup}
 use Rattle.std.specs.Ordering.{eq_by_cmp, is_lt}
-use Rattle.std.specs.Str.{bytes_eq}
 use Rattle.std.specs.declared.cmp.Ordering.TheVariants.{Equal, Less}
 use Rattle.std.specs.declared.ops.Bound.{Bound}
 use Rattle.std.specs.declared.ops.Bound.TheVariants.{Unbounded}
 use Rattle.std.specs.Map.Iter.{TakesFirst}
 use Rattle.std.proofs.lemmas.Bool.Decides.{nat_tests}
 use Rattle.std.proofs.lemmas.List.Elements.{recursion_from_All}
-use Rattle.std.proofs.lemmas.Map.Entries.{option_filter}
 use Rattle.zot_digest.specs.ByteMap.{ByteMap, byte_cmp, map_of}
 use Rattle.zot_manifests.specs.Tags.{AreTags, after}
-use Rattle.zot_maps.proofs.Maps.{byte_order, entries-insert, found_at, get-entries, get-filtered, same_map}
-use Rattle.zot_model.specs.Manifests.{is_tag_of, pulled_at, with_pull, without_tags_of}
+use Rattle.zot_maps.proofs.Maps.{byte_order, entries-insert, found_at, get-entries, same_map}
+use Rattle.zot_model.specs.Manifests.{pulled_at, with_pull}
 use Rattle.zot_model.specs.Pages.{comes_after, last_of, page, page_of, tags_after}
 use Rattle.zot_model.specs.State.{StoredTag}
 use Rattle.zot_names.specs.Tag.{IsTag}
@@ -54,31 +52,6 @@ gone false found h = h
 pub tags_remove : (old new : ByteMap StoredTag) (tag : List ℕ) → new ≡ finite.remove old tag → AreTags old → AreTags new
 tags_remove old new tag is are q has =
     are q (gone (eq_by_cmp byte_cmp q tag) (finite.get old q) (subst (λ o. IsSome o) (ap (λ m. finite.get m q) is ∙ get-remove nat_list_cmp_total old tag q) has))
-
--- ---- the tags of a manifest go
-
-get_without : (tags : ByteMap StoredTag) (digest q : List ℕ) → finite.get (without_tags_of tags digest) q ≡ cond (not (is_tag_of digest (finite.get tags q))) (finite.get tags q) None
-get_without tags digest q =
-    get-retain_keys tags (λ tag. not (is_tag_of digest (finite.get tags tag))) q (λ x same. ap (λ tag. not (is_tag_of digest (finite.get tags tag))) (sym (byte_order.antisymmetric q x same)))
-
-filtered : (digest : List ℕ) (found : Option StoredTag) → option_filter (λ (s : StoredTag). not (bytes_eq s.digest digest)) found ≡ cond (not (is_tag_of digest found)) found None
-filtered digest None = refl
-filtered digest (Some s) = refl
-
-pub retained : (es fs : List (List ℕ × StoredTag)) (tags : ByteMap StoredTag) (digest : List ℕ) → IsStrictlySortedBy byte_cmp (keys_of es) → fs ≡ filter (λ e. not (bytes_eq e.1.digest digest)) es → map_of es ≡ tags
-    → map_of fs ≡ without_tags_of tags digest
-retained es fs tags digest sorted is are = same_map byte_order (map_of fs) (without_tags_of tags digest) (λ q.
-    get-filtered byte_order (λ (s : StoredTag). not (bytes_eq s.digest digest)) es fs q sorted is
-    ∙ filtered digest (finite.get (map_of es) q) ∙ ap (λ m. cond (not (is_tag_of digest (finite.get m q))) (finite.get m q) None) are
-    ∙ sym (get_without tags digest q))
-
-some_kept : (b : Bool) (found : Option StoredTag) → IsSome (cond b found None) → IsSome found
-some_kept true found h = h
-some_kept false found h = absurd (is_none None refl h)
-
-pub tags_without : (old new : ByteMap StoredTag) (digest : List ℕ) → new ≡ without_tags_of old digest → AreTags old → AreTags new
-tags_without old new digest is are q has =
-    are q (some_kept (not (is_tag_of digest (finite.get old q))) (finite.get old q) (subst (λ o. IsSome o) (ap (λ m. finite.get m q) is ∙ get_without old digest q) has))
 
 -- ---- pulls
 

@@ -1,11 +1,11 @@
 //! Which manifests refer to a digest.
-ghost use Rattle.std.specs.Prelude.{◌≡◌, ◌≢◌, ℕ, List, None, false, true, OnOk, option_copied};
+ghost use Rattle.std.specs.Prelude.{◌≡◌, ◌≢◌, ℕ, List, true, OnOk, option_copied};
 ghost use Rattle.std.specs.BTreeMap.{get};
-ghost use Rattle.std.specs.BTreeSet.{contains};
 ghost use Rattle.zot_digest.specs.ByteMap.{byte_cmp};
 ghost use Rattle.zot_manifests.specs.Index.{KeepsListed, lists};
 ghost use Rattle.zot_media.specs.References.{has_digest, refers};
 
+use crate::sets::{list, unlist};
 use std::alloc::{AllocError, Global};
 use std::collections::{BTreeMap, BTreeSet};
 use zot_digest::Digest;
@@ -73,29 +73,7 @@ impl Index {
         ensures keeps { KeepsListed self.old.sets self.new.sets }
         ensures ok { OnOk result (lists self.new.sets referred digest ≡ true) }
     {
-        match self.sets.get_mut(&referred) {
-            Some(set) => add_to(set, digest),
-            None => self.add_first(alloc, referred, digest),
-        }
-    }
-
-    // The same under a digest that nothing is listed under.
-    fn add_first(
-        &mut self,
-        alloc: Global,
-        referred: Digest,
-        digest: Digest,
-    ) -> Result<(), AllocError>
-        requires { get byte_cmp self.now.sets referred ≡ None }
-        ensures keeps { KeepsListed self.old.sets self.new.sets }
-        ensures ok { OnOk result (lists self.new.sets referred digest ≡ true) }
-    {
-        let mut set = BTreeSet::new(alloc);
-        add_to(&mut set, digest)?;
-        match self.sets.insert(referred, set) {
-            Ok(_) => Ok(()),
-            Err(_) => Err(AllocError),
-        }
+        list(&mut self.sets, alloc, referred, digest)
     }
 
     /// Lists a manifest no more under the digests that it refers to. Takes no memory.
@@ -119,33 +97,6 @@ impl Index {
     pub fn unlist(&mut self, referred: &Digest, digest: &Digest)
         ensures { (asked other : List ℕ) → other ≢ digest.now → lists self.old.sets asked other ≡ true → lists self.new.sets asked other ≡ true }
     {
-        if self.remove_from(referred, digest) {
-            let _ = self.sets.remove(referred);
-        }
-    }
-
-    // The same, and whether a set without a manifest is left there.
-    fn remove_from(&mut self, referred: &Digest, digest: &Digest) -> bool
-        ensures others { (asked other : List ℕ) → other ≢ digest.now → lists self.old.sets asked other ≡ true → lists self.new.sets asked other ≡ true }
-        ensures none { result ≡ true → (other : List ℕ) → lists self.new.sets referred.now other ≡ false }
-    {
-        match self.sets.get_mut(referred) {
-            Some(set) => {
-                set.remove(digest);
-                set.is_empty()
-            }
-            None => false,
-        }
-    }
-}
-
-// Adds a digest to a set. After an `Err` the set is as it was.
-fn add_to(set: &mut BTreeSet<Digest>, digest: Digest) -> Result<(), AllocError>
-    ensures keeps { (other : List ℕ) → contains byte_cmp set.old other ≡ true → contains byte_cmp set.new other ≡ true }
-    ensures ok { OnOk result (contains byte_cmp set.new digest ≡ true) }
-{
-    match set.insert(digest) {
-        Ok(_) => Ok(()),
-        Err(_) => Err(AllocError),
+        unlist(&mut self.sets, referred, digest);
     }
 }

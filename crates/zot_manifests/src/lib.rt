@@ -13,8 +13,10 @@ mod kept;
 mod manifest_map;
 mod manifests;
 mod page;
+mod sets;
 mod tag_entry;
 mod tag_map;
+mod tags;
 
 pub use crate::check_error::CheckError;
 pub use crate::checked::Checked;

@@ -11,7 +11,7 @@ use crate::kept::Kept;
 use crate::manifest_map::ManifestMap;
 use crate::page::Page;
 use crate::tag_entry::TagEntry;
-use crate::tag_map::TagMap;
+use crate::tags::Tags;
 use std::alloc::{AllocError, Global};
 use std::marker::Model;
 use zot_digest::Digest;
@@ -22,7 +22,7 @@ use zot_names::Tag;
 #[derive(Drop)]
 pub struct Manifests {
     manifests: ManifestMap,
-    tags: TagMap,
+    tags: Tags,
     index: Index,
 }
 
@@ -47,7 +47,7 @@ impl Manifests {
     {
         Manifests {
             manifests: ManifestMap::new(alloc),
-            tags: TagMap::new(alloc),
+            tags: Tags::new(alloc),
             index: Index::new(alloc),
         }
     }
@@ -80,6 +80,7 @@ impl Manifests {
         };
         let before = self.manifests.set(digest, kept)?;
         put_tag(
+            alloc,
             &mut self.manifests,
             &mut self.tags,
             digest,
@@ -179,8 +180,9 @@ impl Manifests {
 
 // Sets a tag, if there is one, to the manifest of a digest. After an `Err` the tags are as they were, and what was under the digest before is there again.
 fn put_tag(
+    alloc: Global,
     manifests: &mut ManifestMap,
-    tags: &mut TagMap,
+    tags: &mut Tags,
     digest: Digest,
     tag: Option<Tag>,
     moment: u64,
@@ -193,7 +195,7 @@ fn put_tag(
     let Some(tag) = tag else {
         return Ok(());
     };
-    match tags.set(tag, TagEntry::new(digest, moment)) {
+    match tags.set(alloc, tag, TagEntry::new(digest, moment)) {
         Ok(()) => Ok(()),
         Err(error) => {
             manifests.put_back(digest, before);

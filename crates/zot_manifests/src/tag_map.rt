@@ -2,16 +2,19 @@
 ghost use Rattle.std.specs.Prelude.{◌≡◌, ◌↔◌, IsTrue, ℕ, List, take, drop, map, IfOk, OnErr, OnOk, if◌then◌else◌, false, None, option_copied, option_map};
 ghost use Rattle.std.specs.FinMap as finite;
 ghost use Rattle.std.specs.List.{AllByRecursion};
-ghost use Rattle.zot_manifests.specs.Tags.{after};
-ghost use Rattle.zot_model.specs.Manifests.{with_pull, without_tags_of};
+ghost use Rattle.std.specs.BTreeMap.{is_at};
+ghost use Rattle.std.specs.BTreeSet.{contains};
+ghost use Rattle.zot_digest.specs.ByteMap.{byte_cmp};
+ghost use Rattle.zot_manifests.specs.Tags.{after, kept_unless};
+ghost use Rattle.zot_model.specs.Manifests.{is_tag_of, with_pull};
 ghost use Rattle.zot_model.specs.Pages.{last_of, page};
 ghost use Rattle.zot_names.specs.Tag.{IsTag};
 
 use crate::page::Page;
 use crate::tag_entry::TagEntry;
 use std::alloc::{AllocError, Global};
-use std::collections::BTreeMap;
 use std::collections::btree_map::Range;
+use std::collections::{BTreeMap, BTreeSet};
 use std::marker::Model;
 use std::ops::Bound;
 use zot_digest::{Digest, Words};
@@ -62,10 +65,11 @@ impl TagMap {
         self.tree.get(tag.words())
     }
 
-    /// Sets a tag. After an `Err` the tags are as they were.
+    /// Sets a tag. After an `Err`, which comes only where there was none, the tags are as they were.
     pub fn set(&mut self, tag: Tag, entry: TagEntry) -> Result<(), AllocError>
         ensures ok { OnOk result (self.new ≡ finite.insert self.old tag entry) }
         ensures err { OnErr result (self.new ≡ self.old) }
+        ensures absent { OnErr result (finite.get self.old tag ≡ None) }
     {
         self.tree.insert(tag.into_words(), entry)?;
         Ok(())
@@ -80,11 +84,32 @@ impl TagMap {
         self.tree.remove(tag.words()).is_some()
     }
 
-    /// Removes the tags of a manifest.
-    pub fn remove_of(&mut self, digest: &Digest)
-        ensures { self.new ≡ without_tags_of self.old digest.now }
+    /// Removes those of these texts that are tags of a manifest.
+    pub fn remove_each(&mut self, texts: &BTreeSet<Words>, digest: &Digest)
+        ensures { (asked : List ℕ) → finite.get self.new asked ≡ kept_unless (contains byte_cmp texts.now asked) digest.now (finite.get self.old asked) }
     {
-        self.tree.retain(|_, entry| entry.digest() != *digest);
+        for text in texts {
+            self.remove_from(text, digest);
+        }
+    }
+
+    // The same of one text.
+    fn remove_from(&mut self, text: &Words, digest: &Digest)
+        ensures { (asked : List ℕ) → finite.get self.new asked ≡ kept_unless (is_at (byte_cmp asked) text.now) digest.now (finite.get self.old asked) }
+    {
+        if self.is_set_to(text, digest) {
+            let _ = self.tree.remove(text);
+        }
+    }
+
+    // Whether a text is a tag of a manifest.
+    fn is_set_to(&self, text: &Words, digest: &Digest) -> bool
+        ensures { result ≡ is_tag_of digest.now (finite.get self.now text.now) }
+    {
+        match self.tree.get(text) {
+            Some(entry) => entry.digest() == *digest,
+            None => false,
+        }
     }
 
     /// Counts a pull of a tag at the moment, where there is such a tag.

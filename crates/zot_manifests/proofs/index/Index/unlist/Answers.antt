@@ -1,7 +1,6 @@
-use Rattle.zot_manifests.proofs.IndexLemmas.{dropped_keeps}
+use Rattle.std.proofs.Common.{sym}
+use Rattle.zot_maps.proofs.Maps.{byte_order, other_key}
 use Rattle.zot_manifests.proofs.index.Index.unlist.Goals as goal
 
-pub returns-then-remove_from : goal.returns-then-remove_from
-returns-then-remove_from c = λ asked other apart h.
-    dropped_keeps c.remove_from.new.self.sets.entries c.remove.new.self.entries c.args.referred.now c.remove.ensures.updates.0 (c.remove_from.ensures.none c.if-remove_from.true) asked other
-    (c.remove_from.ensures.others asked other apart h)
+pub returns : goal.returns
+returns c = λ asked other apart h. c.unlist.ensures asked other (λ _. other_key byte_order c.args.digest.now other (λ same. apart (sym same))) h
