@@ -25,13 +25,13 @@ pub fn kept_tags(
     ensures kept { IfOk result (λ found. found.items ≡ kept policy.now tags.now moment) }
     ensures ascend { Ascend (texts tags.now) → IfOk result (λ found. Ascend found.items) }
 {
-    let kept = kept_by(alloc, policy, tags, moment)?;
+    let kept = kept_marks(alloc, policy, tags, moment)?;
     let found = marked(alloc, tags, kept.as_slice())?;
     Ok(found)
 }
 
-// Marks for the tags that a policy keeps.
-fn kept_by(
+/// For each tag of the list whether a policy keeps it at a moment. It fails only where memory runs out.
+pub fn kept_marks(
     alloc: Global,
     policy: &Compiled,
     tags: &[TagRow],

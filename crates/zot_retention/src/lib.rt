@@ -24,7 +24,7 @@ mod words_list;
 pub use crate::compiled::{Compiled, compile, policy_for};
 pub use crate::keep::Keep;
 pub use crate::keep_list::KeepList;
-pub use crate::kept::kept_tags;
+pub use crate::kept::{kept_marks, kept_tags};
 pub use crate::laws::{kept_tags_stay, time_keeps_no_more};
 pub use crate::pattern::{Pattern, compile_pattern};
 pub use crate::pattern_error::PatternError;

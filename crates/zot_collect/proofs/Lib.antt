@@ -1,0 +1,6 @@
+pub mod TestLemmas
+pub mod SetLemmas
+pub mod PlaceLemmas
+pub mod SpreadLemmas
+pub mod WalkLemmas
+pub mod LawLemmas

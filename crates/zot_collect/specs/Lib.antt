@@ -1,0 +1,4 @@
+pub mod Ages
+pub mod Sweep
+pub mod Retire
+pub mod Marks
