@@ -1,9 +1,10 @@
-//! Cases of values: digests, owned lists, names, tags, ids, globs, media and documents.
+//! Cases of values: digests, owned lists, names, tags, ids, globs, media and documents, and of image layouts.
 //!
 //! A case as `name-two-components: name a/b => a/b` makes the call `RepoName::read` and others that have to agree with it.
 #![tactic(auto)]
 
 mod digests;
+mod layouts;
 mod manifests;
 mod names;
 mod readings;
@@ -37,6 +38,9 @@ fn call(case: &Case, answer: &mut Answer) {
         "reference" => manifests::reference(answer, given),
         "manifest" => readings::manifest(answer, given),
         "descriptors" => readings::descriptors(answer, given),
+        "index" => layouts::index(answer, given),
+        "written" => layouts::written(answer, given),
+        "marker" => layouts::marker(answer, given),
         _ => answer.fail("no such call"),
     }
 }
