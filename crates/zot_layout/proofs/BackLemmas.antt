@@ -35,7 +35,7 @@ all_joined : {A : Type 0} (P : A → Type 0) (xs ys : List A) → AllByRecursion
 all_joined P [] ys h k = k
 all_joined P (x ∷ xs) ys h k = (h.0, all_joined P xs ys h.1 k)
 
-all_mapped : {A B : Type 0} (P : B → Type 0) (f : A → B) (xs : List A) → AllByRecursion (λ x. P (f x)) xs → AllByRecursion P (map f xs)
+pub all_mapped : {A B : Type 0} (P : B → Type 0) (f : A → B) (xs : List A) → AllByRecursion (λ x. P (f x)) xs → AllByRecursion P (map f xs)
 all_mapped P f [] h = tt
 all_mapped P f (x ∷ xs) h = (h.0, all_mapped P f xs h.1)
 
@@ -43,7 +43,7 @@ all_unmapped : {A B : Type 0} (P : B → Type 0) (f : A → B) (xs : List A) →
 all_unmapped P f [] h = tt
 all_unmapped P f (x ∷ xs) h = (h.0, all_unmapped P f xs h.1)
 
-map_twice : {A B C : Type 0} (f : A → B) (g : B → C) (h : A → C) → ((x : A) → g (f x) ≡ h x) → (xs : List A) → map g (map f xs) ≡ map h xs
+pub map_twice : {A B C : Type 0} (f : A → B) (g : B → C) (h : A → C) → ((x : A) → g (f x) ≡ h x) → (xs : List A) → map g (map f xs) ≡ map h xs
 map_twice f g h same [] = refl
 map_twice f g h same (x ∷ xs) = rw (same x, map_twice f g h same xs) refl
 

@@ -6,3 +6,4 @@ pub mod SortLemmas
 pub mod ListedLemmas
 pub mod BackLemmas
 pub mod IndexLemmas
+pub mod OrderLemmas

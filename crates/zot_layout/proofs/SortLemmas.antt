@@ -59,7 +59,7 @@ module _ {X : Type 0} where
   inserted es [] = es
   inserted es (x ∷ xs) = inserted (insert_entry byte_cmp es x.0 x.1) xs
 
-  same_put : (es : List (List ℕ × X)) (k : List ℕ) (v : X) → insert_entry byte_cmp es k v ≡ put byte_cmp k v es
+  pub same_put : (es : List (List ℕ × X)) (k : List ℕ) (v : X) → insert_entry byte_cmp es k v ≡ put byte_cmp k v es
   same_put [] k v = refl
   same_put (e ∷ es) k v = by (same_put es k v) (byte_cmp k e.0) where
     by : insert_entry byte_cmp es k v ≡ put byte_cmp k v es → (o : Ordering) → match_ordering o ((k, v) ∷ e ∷ es) ((e.0, v) ∷ es) (e ∷ insert_entry byte_cmp es k v) ≡ by_order o ((k, v) ∷ e ∷ es) ((e.0, v) ∷ es) (e ∷ put byte_cmp k v es)
