@@ -2,3 +2,8 @@ pub mod MomentLemmas
 pub mod TagLemmas
 pub mod PlainLemmas
 pub mod TextLemmas
+pub mod SortLemmas
+pub mod ListedLemmas
+pub mod BackLemmas
+pub mod IndexLemmas
+pub mod OrderLemmas

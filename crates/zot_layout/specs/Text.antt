@@ -1,7 +1,7 @@
 -- The text of an index (OCI Image Specification 1.1, "Image Index"): its manifests in the order of their digests, one descriptor per tag in byte order, or one without a tag.
 use Rattle.std.specs.Prelude.{ℕ, if◌then◌else◌, List, [], ◌∷◌, map, codes, decimal}
 use Rattle.std.specs.List.{filter, flat_map, list_any}
-use Rattle.serde_json.specs.Data.{Data, Items, Members, array, no_members, number, object, put, string, unsigned}
+use Rattle.serde_json.specs.Data.{Data, Items, array, no_members, number, object, put, string, unsigned}
 use Rattle.serde_json.specs.View.{items_of}
 use Rattle.serde_json.specs.Written.{compact_text}
 use Rattle.zot_digest.specs.Digest.{digest_text}

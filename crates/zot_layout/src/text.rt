@@ -1,8 +1,11 @@
 //! The text of an index.
-ghost use Rattle.std.specs.Prelude.{◌≡◌, false, IfOk, string_bytes};
-ghost use Rattle.serde_json.specs.Data.{Items, array};
+ghost use Rattle.std.specs.Prelude.{◌≡◌, ◌≤◌, ℕ, List, false, Some, Ok, IfOk, string_bytes};
+ghost use Rattle.serde_json.specs.Data.{Items, array, items_depth};
 ghost use Rattle.serde_json.specs.View.{items_view, view};
 ghost use Rattle.serde_json.specs.Written.{compact_text, items_have_float};
+ghost use Rattle.zot_media.specs.Fields.{document};
+ghost use Rattle.zot_layout.specs.Reading.{meaning};
+ghost use Rattle.zot_layout.specs.State.{IsIndex, as_written};
 ghost use Rattle.zot_layout.specs.Text.{index_text, index_with};
 
 use crate::descriptors::descriptors;
@@ -11,9 +14,10 @@ use serde_json::{Value, json};
 use std::alloc::{AllocError, Global};
 use zot_media::Media;
 
-/// The text of the index that holds a state: compact JSON with its keys in byte order, and a size above 2^63 - 1 as that number. It fails only where memory runs out.
+/// The text of the index that holds a state: compact JSON with its keys in byte order, and a size above 2^63 - 1 as that number. Where the state's lists ascend, and each tag is one of a listed manifest, the text is read back as this state, with its sizes as they are written, at any moment. It fails only where memory runs out.
 pub fn index_text(alloc: Global, state: &IndexState) -> Result<Vec<u8>, AllocError>
-    ensures { IfOk result (λ text. text.items ≡ index_text state.now) }
+    ensures text { IfOk result (λ text. text.items ≡ index_text state.now) }
+    ensures comes_back { IfOk result (λ text. IsIndex state.now → (path : List ℕ) (moment : ℕ) → meaning path text.items moment ≡ Ok (as_written state.now)) }
 {
     let descriptors = descriptors(alloc, state.manifests.as_slice(), state.tags.as_slice())?;
     let text = text_with(alloc, descriptors)?;
@@ -22,8 +26,10 @@ pub fn index_text(alloc: Global, state: &IndexState) -> Result<Vec<u8>, AllocErr
 
 // The text of the index with these descriptors.
 fn text_with(alloc: Global, descriptors: Vec<Value>) -> Result<String, AllocError>
-    requires { items_have_float (items_view descriptors.items) ≡ false }
-    ensures { IfOk result (λ text. string_bytes text ≡ compact_text (index_with (items_view descriptors.items))) }
+    requires plain { items_have_float (items_view descriptors.items) ≡ false }
+    requires shallow { items_depth (items_view descriptors.items) ≤ 2 }
+    ensures text { IfOk result (λ text. string_bytes text ≡ compact_text (index_with (items_view descriptors.items))) }
+    ensures comes_back { IfOk result (λ text. document (string_bytes text) ≡ Some (index_with (items_view descriptors.items))) }
 {
     let value = index_with(alloc, Value::Array(descriptors))?;
     value.to_string(alloc)
