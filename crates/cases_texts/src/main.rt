@@ -14,6 +14,7 @@ use std::io;
 use std::process::ExitCode;
 use zot_cases::{Answer, Case, run};
 use zot_digest::ordered_as_text;
+use zot_layout::what_is_read_is_an_index;
 use zot_media::{annotations_ascend, only_texts_are_read, text_is_read};
 use zot_names::{bytes_of_names, bytes_of_tags, components_of_names};
 
@@ -54,5 +55,6 @@ fn main(rt: HostRuntime) -> io::Result<ExitCode> {
     text_is_read();
     only_texts_are_read();
     annotations_ascend();
+    what_is_read_is_an_index();
     run(&rt, call)
 }
