@@ -7,9 +7,10 @@ use Rattle.std.proofs.lemmas.List.Elements.{All-contains, All-contains_itself, A
 use Rattle.std.proofs.lemmas.List.Folds.{list_any_at}
 use mathlib.Core.Path.{fun_ext}
 use Rattle.zot_collect.proofs.SetLemmas.{bytes_same, same_bytes, same_tests}
-use Rattle.zot_collect.specs.Retire.{AreOutside, GoneManifests, GoWhere, IsClosed, IsLeast, gone_tags, is_child, is_root, is_tagged, left_manifests, left_tags, manifests_without}
-use Rattle.zot_collect.specs.Sweep.{is_sweepable, swept}
-use Rattle.zot_collect.specs.declared.manifest_row.ManifestRow.{ManifestRow}
+use Rattle.zot_collect.specs.Retire.{GoneManifests, gone_tags, is_tagged, left_tags}
+use Rattle.zot_model.specs.Retire.{AreOutside, GoWhere, IsClosed, IsLeast, is_child, is_root, left_manifests, manifests_without}
+use Rattle.zot_model.specs.Sweep.{is_sweepable, swept}
+use Rattle.zot_model.specs.declared.manifest_row.ManifestRow.{ManifestRow}
 use Rattle.zot_retention.proofs.KeptLemmas.{kept_again}
 use Rattle.zot_retention.specs.Kept.{is_kept, kept_rows}
 use Rattle.zot_retention.specs.declared.policy.Policy.{Policy}

@@ -10,8 +10,8 @@ use Rattle.std.proofs.lemmas.Map.Keys.{Less-from_sorted, sorted_from_all_adjacen
 use Rattle.std.proofs.lemmas.Option.{get_or_from_slice_get, slice_get-get_or, slice_get_read, slice_get_within}
 use Rattle.zot_collect.proofs.TestLemmas.{item_at}
 use Rattle.zot_collect.specs.Marks.{HoldsThere}
-use Rattle.zot_collect.specs.Retire.{digests}
-use Rattle.zot_collect.specs.declared.manifest_row.ManifestRow.{ManifestRow}
+use Rattle.zot_model.specs.Retire.{digests}
+use Rattle.zot_model.specs.declared.manifest_row.ManifestRow.{ManifestRow}
 use Rattle.zot_digest.specs.ByteMap.{byte_cmp}
 use Rattle.zot_maps.proofs.Maps.{byte_order, same_key}
 use Rattle.zot_retention.specs.Kept.{Ascend}

@@ -9,8 +9,8 @@ use Rattle.zot_collect.proofs.PlaceLemmas.{one_place, same_row}
 use Rattle.zot_collect.proofs.SetLemmas.{bytes_same, same_bytes}
 use Rattle.zot_collect.proofs.TestLemmas.{any_further, or_left, or_right}
 use Rattle.zot_collect.specs.Marks.{Grows, HoldsThere, IsMarked, Spreads, count_marks}
-use Rattle.zot_collect.specs.Retire.{digests}
-use Rattle.zot_collect.specs.declared.manifest_row.ManifestRow.{ManifestRow}
+use Rattle.zot_model.specs.Retire.{digests}
+use Rattle.zot_model.specs.declared.manifest_row.ManifestRow.{ManifestRow}
 use Rattle.zot_collect.specs.declared.staying.Staying.{Staying}
 use Rattle.zot_media.specs.References.{has_digest}
 use Rattle.zot_media.specs.declared.descriptor.Descriptor.{Descriptor}

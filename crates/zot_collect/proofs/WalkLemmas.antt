@@ -12,8 +12,8 @@ use Rattle.zot_collect.proofs.PlaceLemmas.{all_at, one_place, same_row}
 use Rattle.zot_collect.proofs.SetLemmas.{bytes_same, same_bytes}
 use Rattle.zot_collect.proofs.TestLemmas.{item_at}
 use Rattle.zot_collect.specs.Marks.{AllMarked, AreLeast, AreRoots, Grows, IsMarked, IsReady, Spreads, count_marks}
-use Rattle.zot_collect.specs.Retire.{IsClosed, digests, is_child}
-use Rattle.zot_collect.specs.declared.manifest_row.ManifestRow.{ManifestRow}
+use Rattle.zot_model.specs.Retire.{IsClosed, digests, is_child}
+use Rattle.zot_model.specs.declared.manifest_row.ManifestRow.{ManifestRow}
 use Rattle.zot_collect.specs.declared.staying.Staying.{Staying}
 use Rattle.zot_digest.specs.ByteMap.{byte_cmp}
 use Rattle.zot_media.specs.References.{has_digest}

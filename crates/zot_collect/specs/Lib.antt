@@ -1,4 +1,2 @@
-pub mod Ages
-pub mod Sweep
-pub mod Retire
 pub mod Marks
+pub mod Retire

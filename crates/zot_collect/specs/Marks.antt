@@ -1,8 +1,8 @@
 -- Marks of the manifests that stay, as the code has them. The contracts for other crates say `IsLeast`.
 use Rattle.std.specs.Prelude.{◌≡◌, ◌⊎◌, ℕ, ◌+◌, Bool, true, false, List, map, length, slice_get, slice_index_or, Some}
 use Rattle.std.specs.List.{Contains, count_by}
-use Rattle.zot_collect.specs.Retire.{IsLeast}
-use Rattle.zot_collect.specs.declared.manifest_row.ManifestRow.{ManifestRow}
+use Rattle.zot_model.specs.Retire.{IsLeast}
+use Rattle.zot_model.specs.declared.manifest_row.ManifestRow.{ManifestRow}
 use Rattle.zot_collect.specs.declared.staying.Staying.{Staying}
 
 -- P holds of the manifest at a place

@@ -1,12 +1,12 @@
 //! The children of manifests that stay.
 ghost use Rattle.std.specs.Prelude.{◌≡◌, ◌<◌, true, length, slice_get, Bool, OnOk, Some};
 ghost use Rattle.zot_collect.specs.Marks.{AreLeast, AreRoots, IsReady, Spreads};
-ghost use Rattle.zot_collect.specs.Retire.{digests};
-ghost use Rattle.zot_collect.specs.declared.manifest_row.ManifestRow.{ManifestRow};
+ghost use Rattle.zot_model.specs.Retire.{digests};
+ghost use Rattle.zot_model.specs.declared.manifest_row.ManifestRow.{ManifestRow};
 ghost use Rattle.zot_media.specs.References.{has_digest};
 ghost use Rattle.zot_retention.specs.Kept.{Ascend};
 
-use crate::manifest_row::ManifestRow;
+use zot_model::ManifestRow;
 use crate::staying::Staying;
 use std::alloc::AllocError;
 use zot_media::Descriptor;

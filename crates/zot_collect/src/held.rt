@@ -2,11 +2,11 @@
 ghost use Rattle.std.specs.Prelude.{◌≡◌, ◌||◌, ℕ, List, IfOk, OnOk};
 ghost use Rattle.std.specs.BTreeSet.{contains};
 ghost use Rattle.std.specs.Str.{bytes_eq};
-ghost use Rattle.zot_collect.specs.Sweep.{is_held};
+ghost use Rattle.zot_model.specs.Sweep.{is_held};
 ghost use Rattle.zot_digest.specs.ByteMap.{byte_cmp};
 ghost use Rattle.zot_media.specs.References.{has_digest, refers};
 
-use crate::manifest_row::ManifestRow;
+use zot_model::ManifestRow;
 use std::alloc::{AllocError, Global};
 use std::collections::BTreeSet;
 use zot_digest::Digest;

@@ -1,9 +1,10 @@
 //! Laws of what a collection removes.
 ghost use Rattle.std.specs.Prelude.{◌≡◌, ℕ, [], List, Bool, true, not, Option};
 ghost use Rattle.std.specs.List.{Contains, filter};
-ghost use Rattle.zot_collect.specs.Retire.{GoneManifests, gone_tags, is_child, left_manifests, left_tags};
-ghost use Rattle.zot_collect.specs.Sweep.{is_sweepable, swept};
-ghost use Rattle.zot_collect.specs.declared.manifest_row.ManifestRow.{ManifestRow};
+ghost use Rattle.zot_collect.specs.Retire.{GoneManifests, gone_tags, left_tags};
+ghost use Rattle.zot_model.specs.Retire.{is_child, left_manifests};
+ghost use Rattle.zot_model.specs.Sweep.{is_sweepable, swept};
+ghost use Rattle.zot_model.specs.declared.manifest_row.ManifestRow.{ManifestRow};
 ghost use Rattle.zot_retention.specs.declared.policy.Policy.{Policy};
 ghost use Rattle.zot_retention.specs.declared.tag_row.TagRow.{TagRow};
 

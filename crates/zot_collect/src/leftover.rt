@@ -1,10 +1,11 @@
 //! What has no mark.
 ghost use Rattle.std.specs.Prelude.{◌≡◌, Bool, length, map, IfOk};
-ghost use Rattle.zot_collect.specs.Retire.{manifests_without, tags_without};
-ghost use Rattle.zot_collect.specs.declared.manifest_row.ManifestRow.{ManifestRow};
+ghost use Rattle.zot_collect.specs.Retire.{tags_without};
+ghost use Rattle.zot_model.specs.Retire.{manifests_without};
+ghost use Rattle.zot_model.specs.declared.manifest_row.ManifestRow.{ManifestRow};
 ghost use Rattle.zot_retention.specs.declared.tag_row.TagRow.{TagRow};
 
-use crate::manifest_row::ManifestRow;
+use zot_model::ManifestRow;
 use std::alloc::{AllocError, Global};
 use zot_digest::Digest;
 use zot_names::Tag;

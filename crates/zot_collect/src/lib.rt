@@ -10,7 +10,6 @@ mod children;
 mod held;
 mod laws;
 mod leftover;
-mod manifest_row;
 mod order;
 mod place;
 mod retire_view;
@@ -21,7 +20,7 @@ mod staying;
 mod sweeping;
 
 pub use crate::laws::{child_stays, collected_again, removed_once, swept_again};
-pub use crate::manifest_row::ManifestRow;
+pub use zot_model::ManifestRow;
 pub use crate::order::are_in_order;
 pub use crate::retire_view::RetireView;
 pub use crate::retired::Retired;

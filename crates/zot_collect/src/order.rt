@@ -1,11 +1,11 @@
 //! The order of manifests.
 ghost use Rattle.std.specs.Prelude.{◌≡◌, ◌↔◌, IsTrue};
 ghost use Rattle.std.specs.Ordering.{is_lt};
-ghost use Rattle.zot_collect.specs.Retire.{digests};
+ghost use Rattle.zot_model.specs.Retire.{digests};
 ghost use Rattle.zot_digest.specs.ByteMap.{byte_cmp};
 ghost use Rattle.zot_retention.specs.Kept.{Ascend};
 
-use crate::manifest_row::ManifestRow;
+use zot_model::ManifestRow;
 
 /// Whether manifests are in the order of their digests, each digest once. Takes no memory.
 pub fn are_in_order(manifests: &[ManifestRow]) -> bool

@@ -1,11 +1,11 @@
 //! Where a manifest stands.
 ghost use Rattle.std.specs.Prelude.{◌≡◌, ◌≢◌, ℕ, IfNone, IfSome, Some, slice_get};
 ghost use Rattle.zot_collect.specs.Marks.{HoldsThere};
-ghost use Rattle.zot_collect.specs.Retire.{digests};
-ghost use Rattle.zot_collect.specs.declared.manifest_row.ManifestRow.{ManifestRow};
+ghost use Rattle.zot_model.specs.Retire.{digests};
+ghost use Rattle.zot_model.specs.declared.manifest_row.ManifestRow.{ManifestRow};
 ghost use Rattle.zot_retention.specs.Kept.{Ascend};
 
-use crate::manifest_row::ManifestRow;
+use zot_model::ManifestRow;
 use zot_digest::Digest;
 
 // The place of a digest's manifest, among manifests in the order of their digests.

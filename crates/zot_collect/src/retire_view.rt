@@ -1,5 +1,5 @@
 //! A repository as a collection sees it.
-use crate::manifest_row::ManifestRow;
+use zot_model::ManifestRow;
 use zot_digest::Digest;
 use zot_retention::TagRow;
 

@@ -2,14 +2,15 @@
 ghost use Rattle.std.specs.Prelude.{◌≡◌, ℕ, Some, List, Bool, length, map, option_map, IfOk};
 ghost use Rattle.zot_collect.specs.Marks.{AreLeast};
 ghost use Rattle.std.specs.BTreeSet.{contains};
-ghost use Rattle.zot_collect.specs.Retire.{GoneManifests, GoWhere, digests, gone_tags, is_root, is_tagged};
+ghost use Rattle.zot_collect.specs.Retire.{GoneManifests, gone_tags, is_tagged};
+ghost use Rattle.zot_model.specs.Retire.{GoWhere, digests, is_root};
 ghost use Rattle.zot_digest.specs.ByteMap.{byte_cmp};
 ghost use Rattle.zot_retention.specs.Kept.{Ascend};
 ghost use Rattle.zot_retention.specs.declared.tag_row.TagRow.{TagRow};
 
 use crate::children::mark_descendants;
 use crate::leftover::{unmarked_manifests, unmarked_tags};
-use crate::manifest_row::ManifestRow;
+use zot_model::ManifestRow;
 use crate::retire_view::RetireView;
 use crate::retired::Retired;
 use crate::roots::{mark_roots, tagged_by};

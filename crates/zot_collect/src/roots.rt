@@ -2,13 +2,14 @@
 ghost use Rattle.std.specs.Prelude.{◌≡◌, ℕ, true, Bool, List, length, map, IfOk, OnOk};
 ghost use Rattle.std.specs.BTreeSet.{contains};
 ghost use Rattle.zot_collect.specs.Marks.{Spreads};
-ghost use Rattle.zot_collect.specs.Retire.{is_root, is_tagged};
+ghost use Rattle.zot_collect.specs.Retire.{is_tagged};
+ghost use Rattle.zot_model.specs.Retire.{is_root};
 ghost use Rattle.zot_digest.specs.ByteMap.{byte_cmp};
 ghost use Rattle.zot_retention.specs.declared.tag_row.TagRow.{TagRow};
 
 use crate::age::is_aged;
 use crate::held::add;
-use crate::manifest_row::ManifestRow;
+use zot_model::ManifestRow;
 use crate::staying::Staying;
 use std::alloc::{AllocError, Global};
 use std::collections::BTreeSet;

@@ -1,10 +1,10 @@
 //! Marks of the manifests that stay.
 ghost use Rattle.std.specs.Prelude.{◌≡◌, ◌<◌, [], false, length, replicate, IfOk, OnOk};
 ghost use Rattle.zot_collect.specs.Marks.{Grows, IsMarked, Spreads};
-ghost use Rattle.zot_collect.specs.Retire.{digests};
+ghost use Rattle.zot_model.specs.Retire.{digests};
 ghost use Rattle.zot_retention.specs.Kept.{Ascend};
 
-use crate::manifest_row::ManifestRow;
+use zot_model::ManifestRow;
 use crate::place::place_of;
 use std::alloc::{AllocError, Global};
 use zot_digest::Digest;

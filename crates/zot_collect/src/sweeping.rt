@@ -2,8 +2,8 @@
 ghost use Rattle.std.specs.Prelude.{◌≡◌, ◌&&◌, not, ℕ, List, Bool, map, IfOk};
 ghost use Rattle.std.specs.BTreeSet.{contains};
 ghost use Rattle.std.specs.List.{filter};
-ghost use Rattle.zot_collect.specs.Ages.{is_aged};
-ghost use Rattle.zot_collect.specs.Sweep.{blob_digests, swept};
+ghost use Rattle.zot_model.specs.Ages.{is_aged};
+ghost use Rattle.zot_model.specs.Sweep.{blob_digests, swept};
 ghost use Rattle.zot_digest.specs.ByteMap.{byte_cmp};
 ghost use Rattle.zot_retention.specs.Kept.{Ascend};
 

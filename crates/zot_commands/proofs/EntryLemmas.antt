@@ -1,13 +1,13 @@
 -- The requests of a connection are entries of the row's history.
-use Rattle.std.proofs.Common.{◌≡◌, ◌≢◌, inl, inr, ℕ, List, [], ◌∷◌, ◌++◌, Option, Some, None, refl, sym, ap, ◌∙◌, subst}
-use Rattle.std.specs.Prelude.{IsSomeAnd}
+use Rattle.std.proofs.Common.{◌≡◌, ◌≢◌, ◌≤◌, ◌+◌, ◌-◌, ◌^◌, arith, inl, inr, ℕ, List, [], ◌∷◌, ◌++◌, Option, Some, None, refl, sym, ap, ◌∙◌, subst}
+use Rattle.std.specs.Prelude.{min, IsSomeAnd}
 use Rattle.zot_history.proofs.Runs.{run_append, run_from}
-use Rattle.zot_model.proofs.HistoryLemmas.{same_alike, same_itself}
+use Rattle.zot_model.proofs.HistoryLemmas.{run_later, same_alike, same_itself}
 use Rattle.zot_model.specs.declared.reply.Reply.{Reply}
 use Rattle.zot_model.specs.declared.request.Request.{Request}
 use Rattle.zot_model.specs.declared.call.Call.{Call}
-use Rattle.zot_model.specs.History.{Entry, Event, Happens, Run, Step, asked}
-use Rattle.zot_model.specs.Plain.{GoesWithoutFault, IsPlain, MayAnswer}
+use Rattle.zot_model.specs.History.{Entry, Event, Happens, Run, Step, asked, failed, lacked, named, retired, scrubbed, swept, swept_all}
+use Rattle.zot_model.specs.Plain.{Goes, IsPlain, MayAnswer, Rise, Stay}
 use Rattle.zot_model.specs.Refusals.{no_memory}
 use Rattle.zot_model.specs.State.{AreSame, RowState}
 use Rattle.zot_outside.proofs.MomentLemmas.{at_before, stays_itself, stays_through}
@@ -34,22 +34,43 @@ entries_before told later (declined message reply ∷ exchanges) entries h k = e
 
 -- ---- answers of the plain registry
 
-plain_happens : (name : Option (List ℕ)) (moment : ℕ) (old new : RowState) (call : Call) (reply : Reply) → IsSomeAnd name (λ one. MayAnswer moment old one call reply new) → reply ≢ no_memory
-    → IsSomeAnd name (λ one. GoesWithoutFault (λ repo after. IsPlain moment repo call reply after) old one new)
-plain_happens None moment old new call reply h had = h
-plain_happens (Some name) moment old new call reply (inl plain) had = plain
-plain_happens (Some name) moment old new call reply (inr lacks) had = absurd (had lacks.way.reply_is)
+-- a row without a storage fault had none to say
+no_rise : (before after : ℕ) → Rise before after → after ≡ 0 → ⊥
+no_rise before after h none = by (subst (λ n. min (before + 1) (2 ^ 64 - 1) ≤ n) none h.rose) where
+  by : min (before + 1) (2 ^ 64 - 1) ≤ 0 → ⊥
+  by least = omega (arith, least)
 
-plain_step : (event : Event) (moment : ℕ) (old new : RowState) → Happens old moment event new → HadMemory event → HappensPlainly old moment event new
-plain_step (asked request reply) moment old new h had = plain_happens request.name moment old new request.call reply h had
+plain_happens : (name : Option (List ℕ)) (moment : ℕ) (old new : RowState) (call : Call) (reply : Reply) → IsSomeAnd name (λ one. MayAnswer moment old one call reply new) → reply ≢ no_memory → new.faults ≡ 0
+    → IsSomeAnd name (λ one. Goes Stay (λ repo after. IsPlain moment repo call reply after) old one new)
+plain_happens None moment old new call reply h had none = h
+plain_happens (Some name) moment old new call reply (inl plain) had none = plain
+plain_happens (Some name) moment old new call reply (inr (inl lacks)) had none = absurd (had lacks.way.reply_is)
+plain_happens (Some name) moment old new call reply (inr (inr fails)) had none = absurd (no_rise old.faults new.faults fails.faults none)
 
--- where no entry of a run says that memory ran out, each is the plain registry's answer
-plain_run : (old new : RowState) (entries : List Entry) → Run old entries new → AllHadMemory entries → PlainRun old entries new
-plain_run old new [] h had = h
-plain_run old new (entry ∷ entries) h had = (h.0, (plain_step entry.event entry.moment old h.0 h.1.happens had.0, h.1.faults), plain_run h.0 new entries h.2 had.1)
+plain_step : (event : Event) (moment : ℕ) (old new : RowState) → Happens old moment event new → HadMemory event → new.faults ≡ 0 → HappensPlainly old moment event new
+plain_step (asked request reply) moment old new h had none = plain_happens request.name moment old new request.call reply h had none
+plain_step (retired name rules delay gone) moment old new h had none = h
+plain_step (swept name delay digest) moment old new h had none = h
+plain_step (swept_all name delay) moment old new h had none = h
+plain_step (scrubbed name blobs found) moment old new h had none = h
+plain_step (named found) moment old new h had none = h
+plain_step (lacked task) moment old new h had none = had
+plain_step (failed task) moment old new h had none = absurd (no_rise old.faults new.faults h.faults none)
 
-records : (told : Option ℕ) (old new : RowState) (exchanges : List Exchange) (entries : List Entry) → AreEntries told exchanges entries → Run old entries new → Records told old exchanges new
-records told old new exchanges entries own run = record { entries = entries; own = own; run = run; complete = plain_run old new entries run }
+no_fewer : (before after : ℕ) → before ≤ after → after ≡ 0 → before ≡ 0
+no_fewer before after least none = omega (arith, least, none)
+
+-- where no entry of a run says that memory ran out, and no storage fault came, each is the plain registry's answer
+plain_run : (old new : RowState) (entries : List Entry) → Run old entries new → AllHadMemory entries → new.faults ≡ 0 → PlainRun old entries new
+plain_run old new [] h had none = h
+plain_run old new (entry ∷ entries) h had none = (
+  h.0,
+  (plain_step entry.event entry.moment old h.0 h.1.happens had.0 (no_fewer h.0.faults new.faults (run_later h.0 new entries h.2) none), h.1.faults),
+  plain_run h.0 new entries h.2 had.1 none,
+)
+
+records : (told : Option ℕ) (old new : RowState) (exchanges : List Exchange) (entries : List Entry) → new.faults ≡ 0 → AreEntries told exchanges entries → Run old entries new → Records told old exchanges new
+records told old new exchanges entries none own run = record { entries = entries; own = own; run = run; complete = λ had. plain_run old new entries run had none }
 
 -- ---- runs
 
@@ -64,11 +85,11 @@ records_over (Some name) told old mid new request reply exchanges answer ran = (
 )
 
 -- the same of a run
-records_before : (told later : Option ℕ) (old new : RowState) (exchanges : List Exchange) → StaysAt told later → Records later old exchanges new → Records told old exchanges new
-records_before told later old new exchanges h ran = records told old new exchanges ran.entries (entries_before told later exchanges ran.entries h ran.own) ran.run
+records_before : (told later : Option ℕ) (old new : RowState) (exchanges : List Exchange) → new.faults ≡ 0 → StaysAt told later → Records later old exchanges new → Records told old exchanges new
+records_before told later old new exchanges none h ran = records told old new exchanges ran.entries none (entries_before told later exchanges ran.entries h ran.own) ran.run
 
--- what answers from a borrowed table and clock: what the clock tells, the table's state, and which table and clock they are
-module _ {A N M : Type 0} (told : A → Option ℕ) (row : A → RowState) (table : A → N) (clock : A → M) where
+-- what answers from a borrowed table and clock: what the clock tells, the table's state, which has no storage fault, and which table and clock they are
+module _ {A N M : Type 0} (told : A → Option ℕ) (row : A → RowState) (faultless : (a : A) → (row a).faults ≡ 0) (table : A → N) (clock : A → M) where
   -- one request was answered
   abbrev pub AnswersOne : A → Request → Reply → A → Type 0
   AnswersOne old request reply new = AnswersOver request.name (told old) (row old) request reply (row new) × StaysAt (told old) (told new) × (table new ≡ table old) × (clock new ≡ clock old)
@@ -78,16 +99,16 @@ module _ {A N M : Type 0} (told : A → Option ℕ) (row : A → RowState) (tabl
   Ran old exchanges new = Records (told old) (row old) exchanges (row new) × StaysAt (told old) (told new) × (table new ≡ table old) × (clock new ≡ clock old)
 
   recorded : (exchanges : List Exchange) (old new : A) → ((entries : List Entry) × AreEntries (told old) exchanges entries × Run (row old) entries (row new)) → Records (told old) (row old) exchanges (row new)
-  recorded exchanges old new h = records (told old) (row old) (row new) exchanges h.0 h.1 h.2
+  recorded exchanges old new h = records (told old) (row old) (row new) exchanges h.0 (faultless new) h.1 h.2
 
   -- the exchanges of a connection make a run of the table
   pub conducts_run : (old new : A) (exchanges : List Exchange) → Conducts AnswersOne old exchanges new → Ran old exchanges new
-  conducts_run old new [] h = (records (told old) (row old) (row new) [] [] refl (subst (λ a. AreSame (row old) (row a)) (sym h) (same_itself (row old))), subst (λ a. StaysAt (told old) (told a)) (sym h) (stays_itself (told old)), ap table h, ap clock h)
+  conducts_run old new [] h = (records (told old) (row old) (row new) [] [] (faultless new) refl (subst (λ a. AreSame (row old) (row a)) (sym h) (same_itself (row old))), subst (λ a. StaysAt (told old) (told a)) (sym h) (stays_itself (told old)), ap table h, ap clock h)
   conducts_run old new (answered message request reply ∷ exchanges) h =
       let ran = conducts_run h.0 new exchanges h.2 in (
-        recorded (answered message request reply ∷ exchanges) old new (records_over request.name (told old) (row old) (row h.0) (row new) request reply exchanges h.1.0 (records_before (told old) (told h.0) (row h.0) (row new) exchanges h.1.1 ran.0)),
+        recorded (answered message request reply ∷ exchanges) old new (records_over request.name (told old) (row old) (row h.0) (row new) request reply exchanges h.1.0 (records_before (told old) (told h.0) (row h.0) (row new) exchanges (faultless new) h.1.1 ran.0)),
         stays_through (told old) (told h.0) (told new) h.1.1 ran.1,
         ran.2 ∙ h.1.2,
         ran.3 ∙ h.1.3,
       )
-  conducts_run old new (declined message reply ∷ exchanges) h = let ran = conducts_run old new exchanges h in (records (told old) (row old) (row new) (declined message reply ∷ exchanges) ran.0.entries ran.0.own ran.0.run, ran.1, ran.2, ran.3)
+  conducts_run old new (declined message reply ∷ exchanges) h = let ran = conducts_run old new exchanges h in (records (told old) (row old) (row new) (declined message reply ∷ exchanges) ran.0.entries (faultless new) ran.0.own ran.0.run, ran.1, ran.2, ran.3)

@@ -1,5 +1,5 @@
 -- The entries that a connection's requests make in a row's history.
-use Rattle.std.specs.Prelude.{◌≡◌, ◌≢◌, ℕ, List, [], ◌∷◌, ◌++◌, Option, Some, None, IsSomeAnd}
+use Rattle.std.specs.Prelude.{◌≡◌, ◌≢◌, ℕ, List, [], ◌∷◌, ◌++◌, Option, Some, None, IsSomeAnd, ⊤}
 use Rattle.std.specs.List.{AllByRecursion}
 use Rattle.zot_history.specs.Run.{RunTo}
 use Rattle.zot_model.specs.declared.reply.Reply.{Reply}
@@ -7,8 +7,8 @@ use Rattle.zot_model.specs.declared.reply.Reply.TheVariants.{Base}
 use Rattle.zot_model.specs.declared.request.Request.{Request}
 use Rattle.zot_model.specs.declared.row.RowCall.TheVariants.{Ask}
 use Rattle.zot_model.specs.declared.row.RowReply.TheVariants as answers
-use Rattle.zot_model.specs.History.{Enters, Entry, Event, Run, StandFor, asked}
-use Rattle.zot_model.specs.Plain.{GoesWithoutFault, IsPlain}
+use Rattle.zot_model.specs.History.{Enters, Entry, Event, Happens, Run, StandFor, asked, failed, lacked, named, retired, scrubbed, swept, swept_all}
+use Rattle.zot_model.specs.Plain.{Goes, IsPlain, Stay}
 use Rattle.zot_model.specs.Refusals.{no_memory}
 use Rattle.zot_model.specs.State.{AreSame, RowState}
 use Rattle.zot_outside.specs.Moments.{IsAt}
@@ -31,7 +31,14 @@ AreEntries told (declined message reply ∷ exchanges) entries = AreEntries told
 
 -- what happened is what the plain registry does by the first case that fits
 abbrev pub HappensPlainly : RowState → ℕ → Event → RowState → Type 0
-HappensPlainly old moment (asked request reply) new = IsSomeAnd request.name (λ name. GoesWithoutFault (λ repo after. IsPlain moment repo request.call reply after) old name new)
+HappensPlainly old moment (asked request reply) new = IsSomeAnd request.name (λ name. Goes Stay (λ repo after. IsPlain moment repo request.call reply after) old name new)
+HappensPlainly old moment (retired name rules delay gone) new = Happens old moment (retired name rules delay gone) new
+HappensPlainly old moment (swept name delay digest) new = Happens old moment (swept name delay digest) new
+HappensPlainly old moment (swept_all name delay) new = Happens old moment (swept_all name delay) new
+HappensPlainly old moment (scrubbed name blobs found) new = Happens old moment (scrubbed name blobs found) new
+HappensPlainly old moment (named found) new = Happens old moment (named found) new
+HappensPlainly old moment (lacked task) new = ⊥
+HappensPlainly old moment (failed task) new = ⊥
 
 abbrev pub PlainStep : RowState → Entry → RowState → Type 0
 PlainStep old entry new = HappensPlainly old entry.moment entry.event new × (entry.faults ≡ new.faults)
@@ -43,6 +50,13 @@ PlainRun old entries new = RunTo AreSame PlainStep old entries new
 -- no entry says that memory ran out
 abbrev pub HadMemory : Event → Type 0
 HadMemory (asked request reply) = reply ≢ no_memory
+HadMemory (retired name rules delay gone) = ⊤
+HadMemory (swept name delay digest) = ⊤
+HadMemory (swept_all name delay) = ⊤
+HadMemory (scrubbed name blobs found) = ⊤
+HadMemory (named found) = ⊤
+HadMemory (lacked task) = ⊥
+HadMemory (failed task) = ⊤
 
 abbrev pub AllHadMemory : List Entry → Type 0
 AllHadMemory entries = AllByRecursion (λ entry. HadMemory entry.event) entries

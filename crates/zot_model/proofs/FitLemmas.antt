@@ -12,7 +12,7 @@ use Rattle.zot_media.specs.declared.reference.Reference.TheVariants as by
 use Rattle.zot_model.specs.declared.call.Call.{Call}
 use Rattle.zot_model.specs.declared.call.Call.TheVariants as calls
 use Rattle.zot_model.specs.declared.code.Code.{Code}
-use Rattle.zot_model.specs.declared.code.Code.TheVariants.{BlobUploadUnknown, NoMemory}
+use Rattle.zot_model.specs.declared.code.Code.TheVariants.{BlobUploadUnknown, NoMemory, StorageFault}
 use Rattle.zot_model.specs.declared.detail.Detail.TheVariants as details
 use Rattle.zot_model.specs.Codes.{HasDetail}
 use Rattle.zot_model.specs.declared.mount.Mount.{Mount}
@@ -26,7 +26,7 @@ use Rattle.zot_model.specs.Plain.{MayAnswer, plain}
 use Rattle.zot_model.specs.PlainBlobs.{delete_found, plain_get, plain_head, plain_post}
 use Rattle.zot_model.specs.PlainManifests.{get_found, head_found, is_other, put_checked, put_read}
 use Rattle.zot_model.specs.PlainUploads.{at_found, if_taken, plain_begin, plain_finish, plain_patch, plain_state}
-use Rattle.zot_model.specs.Refusals.{no_memory, refusal}
+use Rattle.zot_model.specs.Refusals.{no_memory, storage_fault, refusal}
 use Rattle.zot_model.specs.State.{RepoState, RowState, Stored, repo_at}
 use Rattle.zot_model.specs.Uploads.{OpenUpload, is_full}
 
@@ -71,6 +71,10 @@ common_fits call code named h = inr (common call code named h, refl, says_nothin
 -- want of memory does
 memory_fits : (call : Call) → call ≢ calls.Base → FitsCall call no_memory
 memory_fits call named = common_fits call NoMemory named (inr (inl refl))
+
+-- a storage fault does
+fault_fits : (call : Call) → call ≢ calls.Base → FitsCall call storage_fault
+fault_fits call named = common_fits call StorageFault named (inl refl)
 
 chosen : (call : Call) (b : Bool) (x y : Outcome) → FitsCall call x.reply → FitsCall call y.reply → FitsCall call (if b then x else y).reply
 chosen call true x y h k = h
@@ -182,4 +186,5 @@ plain_fits moment repo (calls.Referrers digest filter) named = inl tt
 -- each answer to a call on a repository fits it
 pub answer_fits : (moment : ℕ) (old new : RowState) (name : List ℕ) (call : Call) (reply : Reply) → MayAnswer moment old name call reply new → call ≢ calls.Base → FitsCall call reply
 answer_fits moment old new name call reply (inl h) named = subst (λ (r : Reply). FitsCall call r) (sym h.way.reply_is) (plain_fits moment (repo_at old name) call named)
-answer_fits moment old new name call reply (inr h) named = subst (λ (r : Reply). FitsCall call r) (sym h.way.reply_is) (memory_fits call named)
+answer_fits moment old new name call reply (inr (inl h)) named = subst (λ (r : Reply). FitsCall call r) (sym h.way.reply_is) (memory_fits call named)
+answer_fits moment old new name call reply (inr (inr h)) named = subst (λ (r : Reply). FitsCall call r) (sym h.way.reply_is) (fault_fits call named)

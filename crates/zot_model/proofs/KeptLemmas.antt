@@ -1,6 +1,6 @@
 -- What a kept manifest needs stays, whatever is asked.
 use Rattle.std.proofs.Common.{◌≡◌, ◌≢◌, ◌⊎◌, inl, inr, ℕ, Bool, true, false, cond, not, List, [], ◌∷◌, map, Option, Some, None, refl, sym, ap, subst, ◌∙◌, if◌then◌else◌, unwrap_or}
-use Rattle.std.specs.Prelude.{◌||◌, IsSome, IsSomeAnd}
+use Rattle.std.specs.Prelude.{◌||◌, ◌&&◌, IsSome, IsSomeAnd}
 use Rattle.std.specs.FinMap as finite
 use Rattle.std.specs.FinMap.{find, get-entries, get-insert}
 use Rattle.std.specs.Cmp.Lexicographic.{nat_list_cmp_total}
@@ -25,16 +25,19 @@ use Rattle.zot_model.specs.declared.call.Call.TheVariants as calls
 use Rattle.zot_model.specs.declared.reply.Reply.{Reply}
 use Rattle.zot_model.specs.declared.span.Span.{Span}
 use Rattle.zot_model.specs.Among.{IsAmong}
-use Rattle.zot_model.specs.History.{Entry, Event, Happens, Step, asked}
+use Rattle.zot_model.specs.Ages.{is_aged}
+use Rattle.zot_model.specs.Collections.{Gone, Retires, Rules, Sweeps, manifest_row, manifest_rows}
+use Rattle.zot_model.specs.History.{Entry, Event, Happens, Step, asked, failed, lacked, named, retired, scrubbed, swept, swept_all}
 use Rattle.zot_model.specs.Kept.{IsNeededBy, KeepsNeeded}
 use Rattle.zot_model.specs.Manifests.{Found, first_missing, is_needed, is_referred, manifest_of, reading_at}
 use Rattle.zot_model.specs.Outcomes.{Outcome, with_blob}
 use Rattle.zot_model.specs.Pieces.{goes_on, keeps_limit}
-use Rattle.zot_model.specs.Plain.{GoesWithoutFault, MayAnswer, bodies_left, leavings, plain}
+use Rattle.zot_model.specs.Plain.{Goes, MayAnswer, Rise, Stay, bodies_left, leavings, plain}
 use Rattle.zot_model.specs.PlainBlobs.{delete_found}
 use Rattle.zot_model.specs.PlainManifests.{get_found, head_found, is_other, put_checked, put_read}
 use Rattle.zot_model.specs.PlainUploads.{at_found, if_taken, plain_finish, plain_patch, plain_state}
 use Rattle.zot_model.specs.State.{RepoState, RowState, Stored, StoredManifest, repo_at}
+use Rattle.zot_model.specs.Sweep.{holds, is_held}
 use Rattle.zot_model.specs.Uploads.{OpenUpload, is_full}
 
 -- ---- tests on lists and maps
@@ -217,26 +220,66 @@ lacking_keeps moment repo new call (inr (inr h)) = left_keeps moment repo new ca
 
 -- ---- the whole step
 
-goes_keeps : (Way : RepoState → RepoState → Type 0) (old : RowState) (name : List ℕ) (new : RowState) → GoesWithoutFault Way old name new → ((repo : RepoState) → Way (repo_at old name) repo → KeepsNeeded (repo_at old name) repo)
+goes_keeps : (Counts : ℕ → ℕ → Type 0) (Way : RepoState → RepoState → Type 0) (old : RowState) (name : List ℕ) (new : RowState) → Goes Counts Way old name new → ((repo : RepoState) → Way (repo_at old name) repo → KeepsNeeded (repo_at old name) repo)
     → (other : List ℕ) (b : Bool) → bytes_eq other name ≡ b → KeepsNeeded (repo_at old other) (repo_at new other)
-goes_keeps Way old name new h keeps other true is =
+goes_keeps Counts Way old name new h keeps other true is =
     subst (λ n. KeepsNeeded (repo_at old n) (repo_at new n)) (sym ((bytes_eq-Decides other name).0 is)) (subst (λ (r : RepoState). KeepsNeeded (repo_at old name) r) (sym h.becomes.here) (keeps h.repo h.way))
-goes_keeps Way old name new h keeps other false is =
+goes_keeps Counts Way old name new h keeps other false is =
     let apart : other ≢ name = λ same. true≢false (sym ((bytes_eq-Decides other name).1 same) ∙ is) in
     subst (λ (r : RepoState). KeepsNeeded (repo_at old other) r) (sym (h.becomes.others other apart)) (itself (repo_at old other))
 
 answer_keeps : (moment : ℕ) (old new : RowState) (name : List ℕ) (call : Call) (reply : Reply) → MayAnswer moment old name call reply new → (other : List ℕ) → KeepsNeeded (repo_at old other) (repo_at new other)
 answer_keeps moment old new name call reply (inl h) other =
-    goes_keeps _ old name new h (λ repo way. subst (λ (r : RepoState). KeepsNeeded (repo_at old name) r) (sym way.repo_is) (plain_keeps moment (repo_at old name) call)) other (bytes_eq other name) refl
-answer_keeps moment old new name call reply (inr h) other =
-    goes_keeps _ old name new h (λ repo way. lacking_keeps moment (repo_at old name) repo call way.leaves) other (bytes_eq other name) refl
+    goes_keeps Stay _ old name new h (λ repo way. subst (λ (r : RepoState). KeepsNeeded (repo_at old name) r) (sym way.repo_is) (plain_keeps moment (repo_at old name) call)) other (bytes_eq other name) refl
+answer_keeps moment old new name call reply (inr (inl h)) other =
+    goes_keeps Stay _ old name new h (λ repo way. lacking_keeps moment (repo_at old name) repo call way.leaves) other (bytes_eq other name) refl
+answer_keeps moment old new name call reply (inr (inr h)) other =
+    goes_keeps Rise _ old name new h (λ repo way. lacking_keeps moment (repo_at old name) repo call way.leaves) other (bytes_eq other name) refl
 
 named_keeps : (moment : ℕ) (old new : RowState) (name : Option (List ℕ)) (call : Call) (reply : Reply) → IsSomeAnd name (λ n. MayAnswer moment old n call reply new) → (other : List ℕ) → KeepsNeeded (repo_at old other) (repo_at new other)
 named_keeps moment old new None call reply h other = absurd h
 named_keeps moment old new (Some name) call reply h other = answer_keeps moment old new name call reply h other
 
+-- a manifest that refers to a digest holds it
+held_by : (repo : RepoState) (digest : List ℕ) (es : List (List ℕ × StoredManifest)) → list_any (λ e. refers (reading_at repo e.0 e.1) digest) es ≡ true → is_held (map (manifest_row repo) es) digest ≡ true
+held_by repo digest [] h = cc h
+held_by repo digest (e ∷ es) h = by (held_by repo digest es) (refers (reading_at repo e.0 e.1) digest) refl h where
+  by : (list_any (λ x. refers (reading_at repo x.0 x.1) digest) es ≡ true → is_held (map (manifest_row repo) es) digest ≡ true)
+      → (b : Bool) → refers (reading_at repo e.0 e.1) digest ≡ b → (b || list_any (λ x. refers (reading_at repo x.0 x.1) digest) es) ≡ true → is_held (map (manifest_row repo) (e ∷ es)) digest ≡ true
+  by others true is k = either_true (holds (manifest_row repo e) digest) (is_held (map (manifest_row repo) es) digest) (or_true (bytes_eq e.0 digest) (refers (reading_at repo e.0 e.1) digest) is)
+  by others false is k = or_true (holds (manifest_row repo e) digest) (is_held (map (manifest_row repo) es) digest) (others k)
+
+not_held : (aged held : Bool) → (aged && not held) ≡ true → held ≡ false
+not_held true false h = refl
+not_held true true h = cc h
+not_held false held h = cc h
+
+sweep_keeps : (moment delay : ℕ) (digest : List ℕ) (repo new : RepoState) → Sweeps moment delay digest repo new → KeepsNeeded repo new
+sweep_keeps moment delay digest repo new h = subst (λ (r : RepoState). KeepsNeeded repo r) (sym h.left) (λ other reference needs kept has.
+    let free = not_held (is_aged moment delay h.stored.arrived) (is_held (manifest_rows repo) digest) h.may in
+    let apart : reference ≢ digest = λ same.
+        true≢false (sym (held_by repo digest (finite.entries repo.manifests) (subst (λ r. is_referred repo r ≡ true) same (needed_referred repo other reference needs))) ∙ free) in
+    subst (λ o. IsSome o) (sym (removed_elsewhere byte_order repo.blobs digest reference apart)) has)
+
+retire_keeps : (moment : ℕ) (rules : Option Rules) (delay : ℕ) (gone : Gone) (repo new : RepoState) → Retires moment rules delay gone repo new → KeepsNeeded repo new
+retire_keeps moment rules delay gone repo new h = subst (λ (r : RepoState). KeepsNeeded repo r) (sym h.left) (λ digest reference needs kept has. has)
+
+same_keeps : (repo new : RepoState) → new ≡ repo → KeepsNeeded repo new
+same_keeps repo new is = subst (λ (r : RepoState). KeepsNeeded repo r) (sym is) (itself repo)
+
+on_one : (Way : RepoState → RepoState → Type 0) (old : RowState) (name : List ℕ) (new : RowState) → Goes Stay Way old name new → ((repo after : RepoState) → Way repo after → KeepsNeeded repo after) → (other : List ℕ)
+    → KeepsNeeded (repo_at old other) (repo_at new other)
+on_one Way old name new h keeps other = goes_keeps Stay Way old name new h (keeps (repo_at old name)) other (bytes_eq other name) refl
+
 event_keeps : (moment : ℕ) (old new : RowState) (event : Event) → Happens old moment event new → (other : List ℕ) → KeepsNeeded (repo_at old other) (repo_at new other)
 event_keeps moment old new (asked request reply) h other = named_keeps moment old new request.name request.call reply h other
+event_keeps moment old new (retired name rules delay gone) h other = on_one _ old name new h (retire_keeps moment rules delay gone) other
+event_keeps moment old new (swept name delay digest) h other = on_one _ old name new h (sweep_keeps moment delay digest) other
+event_keeps moment old new (swept_all name delay) h other = on_one _ old name new h (λ repo after way. same_keeps repo after way.stays) other
+event_keeps moment old new (scrubbed name blobs found) h other = on_one _ old name new h (λ repo after way. same_keeps repo after way.stays) other
+event_keeps moment old new (named found) h other = same_keeps (repo_at old other) (repo_at new other) (h.1.repos other)
+event_keeps moment old new (lacked task) h other = same_keeps (repo_at old other) (repo_at new other) (h.repos other)
+event_keeps moment old new (failed task) h other = same_keeps (repo_at old other) (repo_at new other) (h.repos other)
 
 pub step_keeps : (old new : RowState) (entry : Entry) (name : List ℕ) → Step old entry new → KeepsNeeded (repo_at old name) (repo_at new name)
 step_keeps old new entry name step = event_keeps entry.moment old new entry.event step.happens name

@@ -1,7 +1,10 @@
+pub mod Ages
 pub mod Alone
 pub mod Among
 pub mod Calls
 pub mod Codes
+pub mod Collections
+pub mod Findings
 pub mod Fits
 pub mod History
 pub mod Kept
@@ -15,7 +18,9 @@ pub mod PlainManifests
 pub mod PlainReferrers
 pub mod PlainUploads
 pub mod Refusals
+pub mod Retire
 pub mod State
+pub mod Sweep
 pub mod Uploads
 pub mod Valid
 pub mod Values

@@ -1,5 +1,5 @@
 -- What a plain registry answers to a request on a repository, case by case.
-use Rattle.std.specs.Prelude.{◌≡◌, ℕ, List, [], ◌∷◌, Some, None, ◌⊎◌}
+use Rattle.std.specs.Prelude.{◌≡◌, ◌≤◌, ◌+◌, ◌-◌, ◌^◌, min, ℕ, List, [], ◌∷◌, Some, None, ◌⊎◌}
 use Rattle.sha2.specs.Sha256.{sha256}
 use Rattle.zot_model.specs.declared.call.Call.{Call}
 use Rattle.zot_model.specs.declared.call.Call.TheVariants.{Base, DeleteBlob, DeleteManifest, Finish, GetBlob, GetManifest, HeadBlob, HeadManifest, Patch, Post, PutManifest, Referrers, Tags, UploadState}
@@ -11,7 +11,7 @@ use Rattle.zot_model.specs.PlainBlobs.{plain_delete, plain_get, plain_head, plai
 use Rattle.zot_model.specs.PlainManifests.{plain_delete_manifest, plain_get_manifest, plain_head_manifest, plain_put, plain_tags}
 use Rattle.zot_model.specs.PlainReferrers.{plain_referrers}
 use Rattle.zot_model.specs.PlainUploads.{at_upload, plain_begin, plain_finish, plain_patch, plain_state}
-use Rattle.zot_model.specs.Refusals.{no_memory}
+use Rattle.zot_model.specs.Refusals.{no_memory, storage_fault}
 use Rattle.zot_model.specs.State.{Becomes, RepoState, RowState, made_known, repo_at}
 
 -- the first case that fits a request, at this moment; no blob is taken over from another repository yet. The base route is asked of no repository
@@ -65,15 +65,32 @@ pub record LacksMemory (moment : ℕ) (old : RepoState) (call : Call) (reply : R
   pub reply_is : reply ≡ no_memory
   pub leaves : IsAmong (leavings moment old call) new
 
--- the repository of the name changes in this way, other repositories stay, and no storage fault comes
-pub record GoesWithoutFault (Way : RepoState → RepoState → Type 0) (old : RowState) (name : List ℕ) (new : RowState) : Type 0 where
+-- the storage failed
+pub record FailsToStore (moment : ℕ) (old : RepoState) (call : Call) (reply : Reply) (new : RepoState) : Type 0 where
+  pub reply_is : reply ≡ storage_fault
+  pub leaves : IsAmong (leavings moment old call) new
+
+-- ---- storage faults
+
+-- a row's storage faults stay as many
+abbrev pub Stay : ℕ → ℕ → Type 0
+Stay before after = after ≡ before
+
+-- or there are more of them; a count of 64 bits stands still at its end
+pub record Rise (before after : ℕ) : Type 0 where
+  pub later : before ≤ after
+  pub rose : min (before + 1) (2 ^ 64 - 1) ≤ after
+
+-- the repository of the name changes in this way, other repositories stay, and the storage faults are counted so
+pub record Goes (Counts : ℕ → ℕ → Type 0) (Way : RepoState → RepoState → Type 0) (old : RowState) (name : List ℕ) (new : RowState) : Type 0 where
   pub repo : RepoState
   pub way : Way (repo_at old name) repo
   pub becomes : Becomes old name repo new
-  pub faults : new.faults ≡ old.faults
+  pub faults : Counts old.faults new.faults
 
--- a call on the repository of a name may be answered so at a moment, and leads from the old row to the new one
+-- a call on the repository of a name may be answered so at a moment, and leads from the old row to the new one. The storage faults rise where the answer says so, and nowhere else
 abbrev pub MayAnswer : ℕ → RowState → List ℕ → Call → Reply → RowState → Type 0
 MayAnswer moment old name call reply new =
-    GoesWithoutFault (λ repo after. IsPlain moment repo call reply after) old name new
-    ⊎ GoesWithoutFault (λ repo after. LacksMemory moment repo call reply after) old name new
+    Goes Stay (λ repo after. IsPlain moment repo call reply after) old name new
+    ⊎ Goes Stay (λ repo after. LacksMemory moment repo call reply after) old name new
+    ⊎ Goes Rise (λ repo after. FailsToStore moment repo call reply after) old name new

@@ -1,7 +1,7 @@
 -- Refusals: a code, its status from the table of codes, and what is said beside it.
 use Rattle.std.specs.Prelude.{ℕ}
 use Rattle.zot_model.specs.declared.code.Code.{Code}
-use Rattle.zot_model.specs.declared.code.Code.TheVariants.{BlobUploadInvalid, NoMemory, Unsupported}
+use Rattle.zot_model.specs.declared.code.Code.TheVariants.{BlobUploadInvalid, NoMemory, StorageFault, Unsupported}
 use Rattle.zot_model.specs.declared.detail.Detail.{Detail}
 use Rattle.zot_model.specs.declared.detail.Detail.TheVariants as details
 use Rattle.zot_model.specs.declared.methods.Methods.{Methods}
@@ -20,6 +20,10 @@ refusal code = refusal_with code details.None
 -- memory ran out (RFC 9110, section 15.6.4)
 abbrev pub no_memory : Reply
 no_memory = refusal NoMemory
+
+-- the storage failed (RFC 9110, section 15.6.1)
+abbrev pub storage_fault : Reply
+storage_fault = refusal StorageFault
 
 -- a piece that doesn't go on where the upload of this id ends, which has so many bytes
 abbrev pub upload_invalid : ℕ → ℕ → Reply

@@ -3,6 +3,7 @@ use Rattle.std.specs.Prelude.{◌≡◌, ℕ, ◌+◌, ◌≤◌, nat_le, Bool, 
 use Rattle.std.specs.Coded.{Coded, code_by, coded×, coded_list, coded_ℕ}
 use Rattle.std.specs.FinMap as map
 use Rattle.std.specs.Ordering.{nat_cmp}
+use Rattle.zot_model.specs.Ages.{is_aged}
 use Rattle.zot_model.specs.declared.limits.TheConstants.{LAST_ID, OPEN_LIMIT}
 
 -- a finite map from numbers, in their order
@@ -71,10 +72,6 @@ with_piece table id piece = record { uploads = put_after table.uploads id piece 
 -- the table in which an upload isn't open any more
 abbrev pub without : UploadTable → ℕ → UploadTable
 without table id = record { uploads = map.remove table.uploads id; opened = table.opened }
-
--- whether what began at the start is at least so many seconds old at the moment
-abbrev pub is_aged : ℕ → ℕ → ℕ → Bool
-is_aged moment delay start = nat_le (start + delay) moment
 
 -- an upload that is younger than the delay at the moment
 abbrev pub if_young : ℕ → ℕ → Option OpenUpload → Option OpenUpload

@@ -1,5 +1,5 @@
 //! Laws of the plain registry.
-ghost use Rattle.std.specs.Prelude.{◌≡◌, ◌≢◌, ◌⊎◌, ◌<◌, ℕ, List, Option, None, Some};
+ghost use Rattle.std.specs.Prelude.{◌≡◌, ◌≢◌, ◌⊎◌, ◌<◌, ◌≤◌, ℕ, List, Option, None, Some};
 ghost use Rattle.std.specs.FinMap as map;
 ghost use Rattle.zot_digest.specs.ByteMap.{ByteMap};
 ghost use Rattle.zot_media.specs.declared.media.Media.{Media as AMedia};
@@ -7,7 +7,7 @@ ghost use Rattle.zot_media.specs.declared.reference.Reference.{Reference as ARef
 ghost use Rattle.zot_media.specs.declared.reference.Reference.TheVariants as by;
 ghost use Rattle.zot_model.specs.Fits.{FitsCall, IsAmong, common_codes};
 ghost use Rattle.zot_model.specs.Alone.{StandAlone};
-ghost use Rattle.zot_model.specs.History.{Entry, Run, Step};
+ghost use Rattle.zot_model.specs.History.{Entry, Run, SaysFault, Step};
 ghost use Rattle.zot_model.specs.Kept.{KeepsNeeded};
 ghost use Rattle.zot_model.specs.Pages.{ArePages, Page, joined, tags_after};
 ghost use Rattle.zot_model.specs.Plain.{MayAnswer, plain};
@@ -37,6 +37,12 @@ pub fn repositories_stand_alone()
 /// The law that a step of a row's history keeps what manifests need: of each manifest that is there before and after it, in each repository, the config and the layers that aren't external stay blobs where they were.
 pub fn needed_blobs_stay()
     ensures { (old new : RowState) (entry : Entry) (name : List ℕ) → Step old entry new → KeepsNeeded (repo_at old name) (repo_at new name) }
+{}
+
+/// The law that a row's storage faults never fall, and that they rise in no entry but those that say that the storage failed.
+pub fn faults_rise_where_said()
+    ensures later { (old new : RowState) (entry : Entry) → Step old entry new → old.faults ≤ new.faults }
+    ensures said { (old new : RowState) (entry : Entry) → Step old entry new → ¬ SaysFault entry.event → new.faults ≡ old.faults }
 {}
 
 /// The law that the pages of one list of tags, each asked by where the one before it says that the next one goes on, come to an end and are the whole list, from its beginning or after any text.

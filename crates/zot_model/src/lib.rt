@@ -11,9 +11,11 @@ mod code;
 mod code_row;
 mod copies;
 mod detail;
+mod finding;
 mod fitting;
 mod laws;
 mod limits;
+mod manifest_row;
 mod methods;
 mod mount;
 mod refusals;
@@ -26,12 +28,14 @@ mod values;
 pub use crate::call::Call;
 pub use crate::code::Code;
 pub use crate::detail::Detail;
+pub use crate::finding::Finding;
 pub use crate::fitting::fits;
 pub use crate::laws::{
-    answers_fit, common_refusals_fit, manifest_comes_back, needed_blobs_stay, pages_are_the_list,
-    repositories_stand_alone,
+    answers_fit, common_refusals_fit, faults_rise_where_said, manifest_comes_back, needed_blobs_stay,
+    pages_are_the_list, repositories_stand_alone,
 };
 pub use crate::limits::{BODY_LIMIT, LAST_ID, MANIFEST_LIMIT, OPEN_LIMIT, UPLOAD_LIMIT};
+pub use crate::manifest_row::ManifestRow;
 pub use crate::methods::Methods;
 pub use crate::mount::Mount;
 pub use crate::reply::Reply;

@@ -17,7 +17,7 @@ use Rattle.zot_model.specs.declared.request.Request.{Request}
 use Rattle.zot_model.specs.declared.row.RowCall.TheVariants.{Ask}
 use Rattle.zot_model.specs.declared.row.RowReply.TheVariants as answers
 use Rattle.zot_model.specs.History.{Enters, Step, entry_of}
-use Rattle.zot_model.specs.Plain.{GoesWithoutFault, MayAnswer}
+use Rattle.zot_model.specs.Plain.{Goes, MayAnswer, Stay}
 use Rattle.zot_model.specs.Refusals.{no_memory}
 use Rattle.zot_repo.proofs.ReplyLemmas.{lacks}
 use Rattle.zot_model.specs.State.{AreSame, Becomes, RepoState, RowState, fresh, repo_at}
@@ -48,12 +48,12 @@ module _ (table : Table) (name : List ℕ) (repo : RepoState) where
       absurd (differs (ap (λ o. unwrap_or o fresh) (sym has_here) ∙ same name ∙ ap (λ o. unwrap_or o fresh) none))
 
   -- a call on the repository that the table has there
-  goes_with : (Way : RepoState → RepoState → Type 0) → Way (repo_at (state_of table) name) repo → GoesWithoutFault Way (state_of table) name (state_of (with_repo table name repo))
+  goes_with : (Way : RepoState → RepoState → Type 0) → Way (repo_at (state_of table) name) repo → Goes Stay Way (state_of table) name (state_of (with_repo table name repo))
   goes_with Way h = record { repo = repo; way = h; becomes = becomes_with; faults = refl }
 
   answers_at : (moment : ℕ) (call : Call) (reply : Reply) → MayGive moment (repo_at (state_of table) name) call reply repo → MayAnswer moment (state_of table) name call reply (state_of (with_repo table name repo))
   answers_at moment call reply (inl h) = inl (goes_with _ h)
-  answers_at moment call reply (inr h) = inr (goes_with _ h)
+  answers_at moment call reply (inr h) = inr (inl (goes_with _ h))
 
   pub answers_with : (moment : ℕ) (call : Call) (reply : Reply) (found : RepoState) → repo_at (state_of table) name ≡ found → MayGive moment found call reply repo
       → MayAnswer moment (state_of table) name call reply (state_of (with_repo table name repo))
@@ -64,7 +64,7 @@ pub names_itself : (table : Table) → KeepsNames table table
 names_itself table same other = (λ h. h, λ h. h)
 
 -- a call that leaves the repository of the name as it is
-stays_as : (Way : RepoState → RepoState → Type 0) (table : Table) (name : List ℕ) → Way (repo_at (state_of table) name) (repo_at (state_of table) name) → GoesWithoutFault Way (state_of table) name (state_of table)
+stays_as : (Way : RepoState → RepoState → Type 0) (table : Table) (name : List ℕ) → Way (repo_at (state_of table) name) (repo_at (state_of table) name) → Goes Stay Way (state_of table) name (state_of table)
 stays_as Way table name h = record { repo = repo_at (state_of table) name; way = h; becomes = record { here = refl; others = λ other differs. refl }; faults = refl }
 
 pub answers_itself : (moment : ℕ) (table : Table) (name : List ℕ) (call : Call) (reply : Reply) (found after : RepoState) → repo_at (state_of table) name ≡ found → after ≡ found → MayGive moment found call reply after
@@ -73,7 +73,7 @@ answers_itself moment table name call reply found after has left h =
     by (subst (λ (r : RepoState). MayGive moment r call reply r) (sym has) (subst (λ (r : RepoState). MayGive moment found call reply r) left h)) where
       by : MayGive moment (repo_at (state_of table) name) call reply (repo_at (state_of table) name) → MayAnswer moment (state_of table) name call reply (state_of table)
       by (inl k) = inl (stays_as _ table name k)
-      by (inr k) = inr (stays_as _ table name k)
+      by (inr k) = inr (inl (stays_as _ table name k))
 
 -- memory ran out, and the table is as it was
 pub answers_lacking : (moment : ℕ) (table : Table) (name : List ℕ) (call : Call) (reply : Reply) → reply ≡ no_memory → MayAnswer moment (state_of table) name call reply (state_of table)

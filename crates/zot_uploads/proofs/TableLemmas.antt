@@ -11,7 +11,8 @@ use Rattle.std.proofs.lemmas.Map.Entries.{option_filter}
 use Rattle.std.specs.BTreeMap.{is_at}
 use Rattle.std.specs.Map.{KeepsOthers, lookup}
 use Rattle.zot_maps.proofs.Maps.{entries-insert, found_at, insert-same, number_order, tied_keys}
-use Rattle.zot_model.specs.Uploads.{NumberMap, OpenUpload, UploadTable, WereGiven, no_uploads, if_young, is_aged, longer, numbered, put_after}
+use Rattle.zot_model.specs.Ages.{is_aged}
+use Rattle.zot_model.specs.Uploads.{NumberMap, OpenUpload, UploadTable, WereGiven, no_uploads, if_young, longer, numbered, put_after}
 
 kept_young : (b : Bool) (upload : OpenUpload) → cond (not b) (Some upload) None ≡ (if b then None else Some upload)
 kept_young true upload = refl

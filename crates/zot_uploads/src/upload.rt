@@ -3,7 +3,8 @@ ghost use Rattle.std.specs.Prelude.{◌≡◌, ◌≢◌, ◌↔◌, ◌+◌, �
 ghost use Rattle.zot_digest.specs.Digest.{IsSound};
 ghost use Rattle.zot_model.specs.Pieces.{goes_on};
 ghost use Rattle.zot_uploads.specs.Cases.{IsTaken, IsWhole, Refuses, RefusesWhole};
-ghost use Rattle.zot_model.specs.Uploads.{is_aged, longer};
+ghost use Rattle.zot_model.specs.Ages.{is_aged};
+ghost use Rattle.zot_model.specs.Uploads.{longer};
 
 use crate::upload_error::UploadError;
 use std::alloc::Global;

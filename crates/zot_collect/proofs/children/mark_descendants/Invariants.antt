@@ -1,7 +1,7 @@
 use Rattle.std.proofs.Common.{Bool}
 use Rattle.zot_collect.proofs.WalkLemmas.{IsSpreading, IsUnderway}
 use Rattle.zot_collect.specs.Marks.{AreRoots}
-use Rattle.zot_collect.specs.declared.manifest_row.ManifestRow.{ManifestRow}
+use Rattle.zot_model.specs.declared.manifest_row.ManifestRow.{ManifestRow}
 use Rattle.zot_collect.proofs.children.mark_descendants.Given as goal
 
 abbrev pub invariant-loop : goal.invariant-loop

@@ -1,8 +1,8 @@
 use Rattle.std.proofs.Common.{◌||◌, ap, sym, ◌∙◌, take}
 use Rattle.std.specs.Str.{bytes_eq}
 use Rattle.zot_collect.proofs.TestLemmas.{any_further, or_assoc}
-use Rattle.zot_collect.specs.Sweep.{holds, is_held}
-use Rattle.zot_collect.specs.declared.manifest_row.ManifestRow.{ManifestRow}
+use Rattle.zot_model.specs.Sweep.{holds, is_held}
+use Rattle.zot_model.specs.declared.manifest_row.ManifestRow.{ManifestRow}
 use Rattle.zot_media.specs.References.{refers}
 use Rattle.zot_collect.proofs.held.held_by.Goals as goal
 

@@ -1,6 +1,6 @@
 use Rattle.std.proofs.Common.{◌≡◌, ℕ, List, take}
 use Rattle.std.specs.BTreeSet.{contains}
-use Rattle.zot_collect.specs.Sweep.{is_held}
+use Rattle.zot_model.specs.Sweep.{is_held}
 use Rattle.zot_digest.specs.ByteMap.{byte_cmp}
 use Rattle.zot_collect.proofs.held.held_by.Given as goal
 

@@ -1,7 +1,7 @@
 use Rattle.std.proofs.Common.{◌++◌, ◌∷◌, [], List, ℕ, map, ap, ap₂, sym, ◌∙◌}
 use Rattle.std.proofs.lemmas.List.{map_push}
 use Rattle.zot_collect.proofs.TestLemmas.{marked_one, unmarked_one}
-use Rattle.zot_collect.specs.declared.manifest_row.ManifestRow.{ManifestRow}
+use Rattle.zot_model.specs.declared.manifest_row.ManifestRow.{ManifestRow}
 use Rattle.zot_collect.proofs.leftover.unmarked_manifests.Goals.{then-not-marks-place+in_ok-push, else-not-marks-place}
 use Rattle.zot_collect.proofs.leftover.unmarked_manifests.Goals as goal
 

@@ -2,7 +2,7 @@ use Rattle.std.proofs.Common.{◌∙◌, sym, refl, length, arith}
 use Rattle.std.specs.BTreeSet.{contains}
 use Rattle.std.proofs.lemmas.Option.{slice_get_read, slice_get_within}
 use Rattle.zot_collect.proofs.SpreadLemmas.{roots_grow, roots_with, roots_without}
-use Rattle.zot_collect.specs.Retire.{is_root}
+use Rattle.zot_model.specs.Retire.{is_root}
 use Rattle.zot_digest.specs.ByteMap.{byte_cmp}
 use Rattle.zot_collect.proofs.roots.mark_roots.Goals.{then-is_root+in_ok-mark, else-is_root}
 use Rattle.zot_collect.proofs.roots.mark_roots.Goals as goal

@@ -1,8 +1,8 @@
 use Rattle.std.proofs.Common.{◌≡◌, ◌<◌, ℕ, true, slice_get, Some}
 use Rattle.std.specs.BTreeSet.{contains}
 use Rattle.zot_collect.specs.Marks.{Grows, HoldsThere, IsMarked}
-use Rattle.zot_collect.specs.Retire.{is_root}
-use Rattle.zot_collect.specs.declared.manifest_row.ManifestRow.{ManifestRow}
+use Rattle.zot_model.specs.Retire.{is_root}
+use Rattle.zot_model.specs.declared.manifest_row.ManifestRow.{ManifestRow}
 use Rattle.zot_digest.specs.ByteMap.{byte_cmp}
 use Rattle.zot_collect.proofs.roots.mark_roots.Given as goal
 

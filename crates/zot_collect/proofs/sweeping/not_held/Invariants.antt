@@ -1,8 +1,8 @@
 use Rattle.std.proofs.Common.{◌≡◌, ◌&&◌, not, take}
 use Rattle.std.specs.BTreeSet.{contains}
 use Rattle.std.specs.List.{filter}
-use Rattle.zot_collect.specs.Ages.{is_aged}
-use Rattle.zot_collect.specs.Sweep.{blob_digests}
+use Rattle.zot_model.specs.Ages.{is_aged}
+use Rattle.zot_model.specs.Sweep.{blob_digests}
 use Rattle.zot_digest.specs.ByteMap.{byte_cmp}
 use Rattle.zot_collect.proofs.sweeping.not_held.Given as goal
 

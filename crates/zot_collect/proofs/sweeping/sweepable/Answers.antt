@@ -1,8 +1,8 @@
 use Rattle.std.proofs.Common.{◌&&◌, not, ℕ, List, sym, subst}
 use Rattle.std.specs.BTreeSet.{contains}
 use Rattle.zot_collect.proofs.SetLemmas.{ascend_filter}
-use Rattle.zot_collect.specs.Ages.{is_aged}
-use Rattle.zot_collect.specs.Sweep.{blob_digests}
+use Rattle.zot_model.specs.Ages.{is_aged}
+use Rattle.zot_model.specs.Sweep.{blob_digests}
 use Rattle.zot_digest.specs.ByteMap.{byte_cmp}
 use Rattle.zot_retention.specs.Kept.{Ascend}
 use Rattle.zot_collect.proofs.sweeping.sweepable.Goals as goal

@@ -3,7 +3,8 @@ use Rattle.std.specs.FinMap as map
 use Rattle.std.proofs.lemmas.Map.Made.{filter_same_pairs}
 use Rattle.zot_maps.proofs.Maps.{get-filtered, len-sorted, number_order}
 use Rattle.zot_uploads.proofs.TableLemmas.{young-filter}
-use Rattle.zot_model.specs.Uploads.{OpenUpload, if_young, is_aged}
+use Rattle.zot_model.specs.Ages.{is_aged}
+use Rattle.zot_model.specs.Uploads.{OpenUpload, if_young}
 use Rattle.zot_uploads.proofs.upload_map.UploadMap.remove_aged.Goals as goal
 
 pub returns-clause-young : goal.returns-clause-young
