@@ -6,10 +6,10 @@ ghost use Rattle.zot_model.specs.declared.manifest_row.ManifestRow.{ManifestRow}
 ghost use Rattle.zot_media.specs.References.{has_digest};
 ghost use Rattle.zot_retention.specs.Kept.{Ascend};
 
-use zot_model::ManifestRow;
 use crate::staying::Staying;
 use std::alloc::AllocError;
 use zot_media::Descriptor;
+use zot_model::ManifestRow;
 
 // Marks the manifests of these descriptors.
 pub(crate) fn mark_children(

@@ -6,11 +6,11 @@ ghost use Rattle.zot_model.specs.Sweep.{is_held};
 ghost use Rattle.zot_digest.specs.ByteMap.{byte_cmp};
 ghost use Rattle.zot_media.specs.References.{has_digest, refers};
 
-use zot_model::ManifestRow;
 use std::alloc::{AllocError, Global};
 use std::collections::BTreeSet;
 use zot_digest::Digest;
 use zot_media::{Descriptor, Reading};
+use zot_model::ManifestRow;
 
 // The digests of these manifests, and those that they refer to.
 pub(crate) fn held_by(

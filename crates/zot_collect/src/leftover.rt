@@ -5,9 +5,9 @@ ghost use Rattle.zot_model.specs.Retire.{manifests_without};
 ghost use Rattle.zot_model.specs.declared.manifest_row.ManifestRow.{ManifestRow};
 ghost use Rattle.zot_retention.specs.declared.tag_row.TagRow.{TagRow};
 
-use zot_model::ManifestRow;
 use std::alloc::{AllocError, Global};
 use zot_digest::Digest;
+use zot_model::ManifestRow;
 use zot_names::Tag;
 use zot_retention::TagRow;
 

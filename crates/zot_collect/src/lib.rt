@@ -20,9 +20,9 @@ mod staying;
 mod sweeping;
 
 pub use crate::laws::{child_stays, collected_again, removed_once, swept_again};
-pub use zot_model::ManifestRow;
 pub use crate::order::are_in_order;
 pub use crate::retire_view::RetireView;
 pub use crate::retired::Retired;
 pub use crate::retiring::retire;
 pub use crate::sweeping::sweepable;
+pub use zot_model::ManifestRow;

@@ -5,8 +5,8 @@ ghost use Rattle.zot_model.specs.Retire.{digests};
 ghost use Rattle.zot_model.specs.declared.manifest_row.ManifestRow.{ManifestRow};
 ghost use Rattle.zot_retention.specs.Kept.{Ascend};
 
-use zot_model::ManifestRow;
 use zot_digest::Digest;
+use zot_model::ManifestRow;
 
 // The place of a digest's manifest, among manifests in the order of their digests.
 pub(crate) fn place_of(manifests: &[ManifestRow], digest: &Digest) -> Option<usize>

@@ -1,6 +1,6 @@
 //! A repository as a collection sees it.
-use zot_model::ManifestRow;
 use zot_digest::Digest;
+use zot_model::ManifestRow;
 use zot_retention::TagRow;
 
 /// A repository as a collection sees it.

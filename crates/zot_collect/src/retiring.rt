@@ -10,7 +10,6 @@ ghost use Rattle.zot_retention.specs.declared.tag_row.TagRow.{TagRow};
 
 use crate::children::mark_descendants;
 use crate::leftover::{unmarked_manifests, unmarked_tags};
-use zot_model::ManifestRow;
 use crate::retire_view::RetireView;
 use crate::retired::Retired;
 use crate::roots::{mark_roots, tagged_by};
@@ -18,6 +17,7 @@ use crate::staying::Staying;
 use std::alloc::{AllocError, Global};
 use std::collections::BTreeSet;
 use zot_digest::Digest;
+use zot_model::ManifestRow;
 use zot_retention::{Compiled, TagRow, kept_marks};
 
 /// The tags and manifests that go from a repository at the moment: the tags that the policy doesn't keep, and then, where it

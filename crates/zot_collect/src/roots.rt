@@ -9,11 +9,11 @@ ghost use Rattle.zot_retention.specs.declared.tag_row.TagRow.{TagRow};
 
 use crate::age::is_aged;
 use crate::held::add;
-use zot_model::ManifestRow;
 use crate::staying::Staying;
 use std::alloc::{AllocError, Global};
 use std::collections::BTreeSet;
 use zot_digest::Digest;
+use zot_model::ManifestRow;
 use zot_retention::TagRow;
 
 // The digests of the tags with marks.

@@ -4,10 +4,10 @@ ghost use Rattle.zot_collect.specs.Marks.{Grows, IsMarked, Spreads};
 ghost use Rattle.zot_model.specs.Retire.{digests};
 ghost use Rattle.zot_retention.specs.Kept.{Ascend};
 
-use zot_model::ManifestRow;
 use crate::place::place_of;
 use std::alloc::{AllocError, Global};
 use zot_digest::Digest;
+use zot_model::ManifestRow;
 
 // A mark for each manifest that stays, and the places of those whose children are still to be marked.
 #[derive(Drop)]

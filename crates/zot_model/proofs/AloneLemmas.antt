@@ -84,11 +84,14 @@ module _ (name : List ℕ) where
   own_event moment faults old new (scrubbed other blobs found) is h = own_way _ faults old new other is h
   own_event moment faults old new (named found) is h = absurd (true≢false (sym is))
   own_event moment faults old new (lacked task) is h = (faults, same_alone faults old new (h.repos name))
-  own_event moment faults old new (failed task) is h = (faults + 1, record {
-    asks = h.asks;
-    repos = (same_alone faults old new (h.repos name)).repos;
-    faults = one_fault faults;
-  })
+  own_event moment faults old new (failed task) is h = (
+    faults + 1,
+    record {
+      asks = h.asks;
+      repos = (same_alone faults old new (h.repos name)).repos;
+      faults = one_fault faults;
+    },
+  )
 
   not_named : (b : Bool) (other : List ℕ) → bytes_eq name other ≡ b → b ≡ false → name ≢ other
   not_named b other e none same = cc (sym e ∙ (bytes_eq-Decides name other).1 same, none)
@@ -120,11 +123,11 @@ module _ (name : List ℕ) where
       → ((after : ℕ) → Stands after mid entries new) → Stands faults old (entry ∷ entries) new
   own_first faults old mid new entry entries first rest =
       let h = rest first.0 in (
-    record { event = entry.event; moment = entry.moment; faults = first.0 } ∷ h.0,
-    ap (λ (l : List (Event × ℕ)). (entry.event, entry.moment) ∷ l) h.1,
-    h.2,
-    (row_with name (repo_at mid name) first.0, record { happens = first.1; faults = refl }, h.3),
-  )
+        record { event = entry.event; moment = entry.moment; faults = first.0 } ∷ h.0,
+        ap (λ (l : List (Event × ℕ)). (entry.event, entry.moment) ∷ l) h.1,
+        h.2,
+        (row_with name (repo_at mid name) first.0, record { happens = first.1; faults = refl }, h.3),
+      )
 
   one_more : (faults : ℕ) (old mid new : RowState) (entry : Entry) (entries : List Entry) (c : Bool) → is_of name entry ≡ c → Step old entry mid → ((after : ℕ) → Stands after mid entries new)
       → Stands faults old (cond c (entry ∷ entries) entries) new

@@ -258,7 +258,7 @@ sweep_keeps : (moment delay : ℕ) (digest : List ℕ) (repo new : RepoState) �
 sweep_keeps moment delay digest repo new h = subst (λ (r : RepoState). KeepsNeeded repo r) (sym h.left) (λ other reference needs kept has.
     let free = not_held (is_aged moment delay h.stored.arrived) (is_held (manifest_rows repo) digest) h.may in
     let apart : reference ≢ digest = λ same.
-        true≢false (sym (held_by repo digest (finite.entries repo.manifests) (subst (λ r. is_referred repo r ≡ true) same (needed_referred repo other reference needs))) ∙ free) in
+    true≢false (sym (held_by repo digest (finite.entries repo.manifests) (subst (λ r. is_referred repo r ≡ true) same (needed_referred repo other reference needs))) ∙ free) in
     subst (λ o. IsSome o) (sym (removed_elsewhere byte_order repo.blobs digest reference apart)) has)
 
 retire_keeps : (moment : ℕ) (rules : Option Rules) (delay : ℕ) (gone : Gone) (repo new : RepoState) → Retires moment rules delay gone repo new → KeepsNeeded repo new

@@ -31,8 +31,8 @@ pub use crate::detail::Detail;
 pub use crate::finding::Finding;
 pub use crate::fitting::fits;
 pub use crate::laws::{
-    answers_fit, common_refusals_fit, faults_rise_where_said, manifest_comes_back, needed_blobs_stay,
-    pages_are_the_list, repositories_stand_alone,
+    answers_fit, common_refusals_fit, faults_rise_where_said, manifest_comes_back,
+    needed_blobs_stay, pages_are_the_list, repositories_stand_alone,
 };
 pub use crate::limits::{BODY_LIMIT, LAST_ID, MANIFEST_LIMIT, OPEN_LIMIT, UPLOAD_LIMIT};
 pub use crate::manifest_row::ManifestRow;
