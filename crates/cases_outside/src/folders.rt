@@ -2,7 +2,8 @@
 use crate::scripts::make;
 use std::alloc::Global;
 use std::fs;
-use std::os::unix::fs::symlink;
+use std::fs::Permissions;
+use std::os::unix::fs::{PermissionsExt, symlink};
 use zot_cases::{Answer, Case, number, word};
 use zot_fakes::SteadyStore;
 use zot_folder::{Disk, FolderStore};
@@ -18,7 +19,8 @@ const PATHS: [&str; 8] = ["a-b", "a.b", "a/b", "a/b-", "a/c/d", "a/c/e", "a0", "
 
 /// The answers to a script of a store over the folder `root` in a new folder of the case's own, which two stores that take
 /// turns over one root have to give too. Besides calls of the store a step may be `folder PATH`, `file PATH`, `link PATH
-/// TARGET`, `there PATH` or `shows PATH`, which make and read what lies in the case's folder without the store.
+/// TARGET`, `rights PATH MODE`, `there PATH` or `shows PATH`, which make, change and read what lies in the case's folder
+/// without the store.
 pub fn folder(rt: HostRuntime, case: &Case, answer: &mut Answer) {
     let mut both = Answer::new(rt.alloc());
     run(rt, case, answer, false);
@@ -66,6 +68,10 @@ fn take<S: Store>(rt: HostRuntime, name: &str, answer: &mut Answer, store: &mut 
         "folder" => answer.show(&fs::create_dir_all(&rt, place).is_ok()),
         "file" => answer.show(&fs::write(&rt, place, "no object").is_ok()),
         "link" => answer.show(&symlink(&rt, word(step, 2), place).is_ok()),
+        "rights" => {
+            let mode = u32::from_str_radix(word(step, 2), 8).unwrap_or(0);
+            answer.show(&fs::set_permissions(&rt, place, Permissions::from_mode(mode)).is_ok());
+        }
         "there" => answer.show(&fs::symlink_metadata(&rt, place).is_ok()),
         "shows" => answer.give(fs::read_to_string(&rt, place)),
         _ => make(answer, store, step, 2),

@@ -13,8 +13,8 @@ use std::process::ExitCode;
 use zot_cases::{Answer, Case, run};
 use zot_fakes::{SteadyStore, empty_list_fails_none};
 use zot_outside::{
-    append_changes, change_is_one, copy_changes, delete_changes, listed_as_held, listing_ends,
-    next_lists, put_changes,
+    append_changes, calls_join, calls_leave_others, change_is_one, copy_changes, delete_changes,
+    listed_as_held, listing_ends, next_lists, put_changes,
 };
 
 // Makes the call of a case.
@@ -41,6 +41,8 @@ fn laws(answer: &mut Answer) {
     append_changes();
     copy_changes();
     delete_changes();
+    calls_leave_others();
+    calls_join();
     change_is_one();
     next_lists();
     listed_as_held();

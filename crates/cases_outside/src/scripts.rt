@@ -1,6 +1,6 @@
 //! Scripts: calls on a store, each `CALL PATH MORE`, with `; ` between two.
 use zot_cases::{Answer, word};
-use zot_outside::{Store, has_bytes, read_whole};
+use zot_outside::{PathWalk, Store, has_bytes, read_whole};
 
 /// What a store answers to each call of a script. It reads from the third byte on.
 pub fn answers<S: Store>(answer: &mut Answer, store: &mut S, script: &str) {
@@ -34,7 +34,24 @@ pub fn make<S: Store>(answer: &mut Answer, store: &mut S, step: &str, at: u64) {
             Ok(bytes) => answer.write(bytes.as_slice()),
             Err(error) => answer.show(&error),
         },
+        "walk" => walk(answer, store, path),
         "has" => answer.show(&has_bytes(store, alloc, path, more.as_bytes())),
         _ => answer.fail("no such call"),
+    }
+}
+
+// Adds the paths of a store that a walk finds which passes over those up to one, and that it came to the end.
+fn walk<S: Store>(answer: &mut Answer, store: &mut S, after: &str) {
+    let alloc = answer.alloc();
+    let mut walk = PathWalk::over(store, alloc);
+    let skipped = walk.skip_to(alloc, after);
+    answer.keep(skipped, ());
+    for _ in 0..u64::MAX {
+        match walk.next(store, alloc) {
+            Ok(Some(path)) => answer.say(path.as_str()),
+            Ok(None) => return answer.say("end"),
+            Err(error) => return answer.show(&error),
+        }
+        answer.say(",");
     }
 }

@@ -9,7 +9,7 @@ use zot_fakes::{MemorySink, MemorySource, MemoryStore, SteadySource, SteadyStore
 use zot_folder::{Disk, FolderStore};
 use zot_outside::{
     Accepted, BindError, Clock, Gate, Listener, OpenGate, Point, ReaderSource, Sink, Source, Store,
-    StoreError, SystemClock, TcpListeners, WriterSink, has_bytes,
+    StoreError, SystemClock, TcpListeners, WriterSink, has_bytes, read_whole,
 };
 
 /// A store over a new folder in the test's own folder.
@@ -50,10 +50,17 @@ fn has_pieces<S: Store>(alloc: Global, store: &mut S, path: &str) -> Result<bool
 fn folder_of_a_large_object(rt: HostRuntime) -> Result<(), Fail> {
     let alloc = rt.alloc();
     let mut store = fresh_folder(rt, "folder_of_a_large_object")?;
+    let mut other = FolderStore::new(rt, alloc, "folder_of_a_large_object")?;
     put_pieces(alloc, &mut store, "large/object")?;
-    store.copy(alloc, "large/object", "large/copy")?;
-    assert!(rt; has_pieces(alloc, &mut store, "large/object")?);
+    other.copy(alloc, "large/object", "large/copy")?;
+    assert!(rt; has_pieces(alloc, &mut other, "large/object")?);
     assert!(rt; has_pieces(alloc, &mut store, "large/copy")?);
+    let mut whole = read_whole(&mut store, alloc, "large/object")?;
+    assert!(rt; has_bytes(&mut other, alloc, "large/copy", whole.as_slice())?);
+    whole.push(0)?;
+    assert!(rt; !has_bytes(&mut store, alloc, "large/copy", whole.as_slice())?);
+    other.append(alloc, "large/copy", &[1])?;
+    assert!(rt; !has_bytes(&mut store, alloc, "large/copy", whole.as_slice())?);
     fs::remove_dir_all(&rt, "folder_of_a_large_object")?;
     Ok(())
 }

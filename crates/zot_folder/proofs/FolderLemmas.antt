@@ -15,6 +15,7 @@ use Rattle.std.specs.declared.cmp.Ordering.TheVariants.{Less, Equal, Greater}
 use Rattle.std.specs.Ordering.{is_gt, is_le, is_lt, ordering_reverse}
 use Rattle.zot_maps.proofs.Maps.{byte_order}
 use Rattle.zot_folder.specs.Listing.{FindsAbove, IsChild, IsEntry, IsFileAbove}
+use Rattle.zot_folder.specs.Paths.{is_object_path}
 use Rattle.zot_outside.specs.Objects.{path_cmp}
 
 -- no slash stands from a place on up to another
@@ -52,11 +53,14 @@ pub name_without_slash : {R A F D : Type 0} (entry : DirEntry R A F D) → All (
 unfolding rsplit_once
 name_without_slash entry = let path = dir_entry_path entry in last_plain path (rfind_below 47 path (length path)) (plain_below path (length path))
 
--- the path of an entry is one in the folder, since its name has no slash
-pub child_found : {Z : Type 0} (folder name : List ℕ) (found : Option (String Z)) → All (λ b. b ≢ 47) name → IfSome found (λ path. IsEntry folder name (string_bytes path))
+no_name : is_object_path [] ≡ true → ⊥
+no_name h = cc h
+
+-- the path of an entry is one in the folder, since its name has no slash, and is a part of an object's path
+pub child_found : {Z : Type 0} (folder name : List ℕ) (found : Option (String Z)) → All (λ b. b ≢ 47) name → is_object_path name ≡ true → IfSome found (λ path. IsEntry folder name (string_bytes path))
     → IfSome found (λ path. IsChild folder (string_bytes path))
-child_found folder name None plain entry = tt
-child_found folder name (Some path) plain entry = (name, plain, entry)
+child_found folder name None plain part entry = tt
+child_found folder name (Some path) plain part entry = record { name = name; plain = plain; named = λ is. no_name (sym (ap is_object_path is) ∙ part); entry = entry }
 
 module _ {Z : Type 0} (bound : List ℕ) where
   -- whether a path isn't greater than the bound

@@ -1,4 +1,11 @@
+mod CopyLemmas
 mod FolderLemmas
+mod HeldLemmas
+mod ListingLemmas
+mod NextLemmas
 mod PathLemmas
+mod PrefixLemmas
+mod SearchLemmas
+mod StoreLemmas
 mod TreeLemmas
 mod WritingLemmas

@@ -1,5 +1,6 @@
 -- Which paths can have no object.
-use Rattle.std.proofs.Common.{◌≡◌, ℕ, Bool, true, false, cond, eqb, not, ◌&&◌, ◌==◌, nat_lt, List, [], ◌∷◌, ◌++◌, length, drop, refl, ap, ◌∙◌, String, string_bytes, Result, Ok, Err, IfOk}
+use Rattle.std.proofs.Common.{◌≡◌, ℕ, Bool, true, false, cond, eqb, not, ◌&&◌, ◌==◌, nat_lt, List, [], ◌∷◌, ◌++◌, length, drop, refl, sym, ap, ◌∙◌, String, string_bytes, Result, Ok, Err, IfOk}
+use Rattle.std.proofs.lemmas.Bool.{and_parts}
 use Rattle.std.specs.List.{list_all, list_any, onto_first, slice_split}
 use Rattle.zot_folder.specs.Paths.{is_object_path, is_part}
 
@@ -49,6 +50,47 @@ pub hidden_in_folder : {Z E : Type 0} (made : Result (String Z) E) (folder name 
 hidden_in_folder (Ok path) folder name is = ap is_object_path is ∙ hidden_below folder name
 hidden_in_folder (Err error) folder name is = tt
 
-pub hidden_in_root : {Z E : Type 0} (made : Result (String Z) E) (name : List ℕ) → IfOk made (λ path. string_bytes path ≡ 46 ∷ name) → IfOk made (λ path. is_object_path (string_bytes path) ≡ false)
-hidden_in_root (Ok path) name is = ap is_object_path is ∙ dotted (parts name)
-hidden_in_root (Err error) name is = tt
+-- nor can one that ends with a slash
+slashed_tail : (stem : List ℕ) → list_all is_part (tail (parts (stem ++ 47 ∷ []))) ≡ false
+slashed_tail [] = refl
+slashed_tail (b ∷ stem) =
+    elim (eqb b 47) as (λ e. list_all is_part (tail (cond e ([] ∷ parts (stem ++ 47 ∷ [])) (onto_first b (parts (stem ++ 47 ∷ []))))) ≡ false) [
+      | true ↦ whole_from_tail (parts (stem ++ 47 ∷ [])) (slashed_tail stem)
+      | false ↦ tail_onto b (parts (stem ++ 47 ∷ [])) (slashed_tail stem)
+    ]
+
+pub slashed : (stem : List ℕ) → is_object_path (stem ++ 47 ∷ []) ≡ false
+slashed stem = whole_from_tail (parts (stem ++ 47 ∷ [])) (slashed_tail stem)
+
+onto_append : (b : ℕ) (p : List ℕ) (ps qs : List (List ℕ)) → onto_first b ((p ∷ ps) ++ qs) ≡ onto_first b (p ∷ ps) ++ qs
+onto_append b p ps qs = refl
+
+-- there is a first part
+first_part : (path : List ℕ) → (p : List ℕ) × (ps : List (List ℕ)) × (parts path ≡ p ∷ ps)
+first_part [] = ([], [], refl)
+first_part (b ∷ path) =
+    let rest = first_part path in
+    elim (eqb b 47) as (λ e. (p : List ℕ) × (ps : List (List ℕ)) × (cond e ([] ∷ parts path) (onto_first b (parts path)) ≡ p ∷ ps)) [
+      | true ↦ ([], parts path, refl)
+      | false ↦ (b ∷ rest.0, rest.1, ap (onto_first b) rest.2)
+    ]
+
+parts_joined : (folder rest : List ℕ) → parts (folder ++ 47 ∷ rest) ≡ parts folder ++ parts rest
+parts_joined [] rest = refl
+parts_joined (b ∷ folder) rest =
+    let more = parts_joined folder rest in
+    let first = first_part folder in
+    elim (eqb b 47) as (λ e. cond e ([] ∷ parts (folder ++ 47 ∷ rest)) (onto_first b (parts (folder ++ 47 ∷ rest))) ≡ cond e ([] ∷ parts folder) (onto_first b (parts folder)) ++ parts rest) [
+      | true ↦ ap (λ ps. [] ∷ ps) more
+      | false ↦ ap (onto_first b) (more ∙ ap (λ ps. ps ++ parts rest) first.2) ∙ onto_append b first.0 first.1 (parts rest) ∙ ap (λ ps. onto_first b ps ++ parts rest) (sym first.2)
+    ]
+
+all_first : (ps qs : List (List ℕ)) → list_all is_part (ps ++ qs) ≡ true → list_all is_part ps ≡ true
+all_first [] qs h = refl
+all_first (p ∷ ps) qs h =
+    let both = and_parts (is_part p) (list_all is_part (ps ++ qs)) h in
+    ap (λ b. b && list_all is_part ps) both.0 ∙ all_first ps qs both.1
+
+-- the folder of an object's path could have an object
+pub folder_named : (folder rest : List ℕ) → is_object_path (folder ++ 47 ∷ rest) ≡ true → is_object_path folder ≡ true
+folder_named folder rest h = all_first (parts folder) (parts rest) (sym (ap (list_all is_part) (parts_joined folder rest)) ∙ h)

@@ -24,6 +24,14 @@ there files path named = object_at files path ∙ ap (λ b. cond b (map.get file
 nowhere : (files : Files) (path : List ℕ) → is_object_path path ≡ false → map.get (objects_in files) path ≡ None
 nowhere files path hidden = object_at files path ∙ ap (λ b. cond b (map.get files path) None) hidden
 
+-- an object's path can have one
+pub objects_named : (files : Files) (path : List ℕ) → IsSome (map.get (objects_in files) path) → is_object_path path ≡ true
+objects_named files path held =
+    elim (is_object_path path) as (λ b. is_object_path path ≡ b → b ≡ true) [
+      | true ↦ λ _. refl
+      | false ↦ λ hidden. cc (sym held ∙ ap is_some (nowhere files path hidden))
+    ] refl
+
 -- a path that can have an object and one that can't are two
 apart : (path other : List ℕ) → is_object_path path ≡ true → is_object_path other ≡ false → path ≢ other
 apart path other named hidden is = true≢false (sym named ∙ ap is_object_path is ∙ hidden)
@@ -125,18 +133,6 @@ pub published : (before after : Option Files) (fresh path : List ℕ) → is_obj
 published None after fresh path hidden named h = ap objects_of h
 published (Some files) None fresh path hidden named h = absurd h
 published (Some files) (Some now) fresh path hidden named h = moved files now fresh path (map.get files fresh) hidden named h refl
-
-stored_in : (files : Files) (fresh path : List ℕ) (found : Option (List ℕ)) (after : Option Objects) → IsSomeAnd found (λ bytes. map.get files fresh ≡ Some bytes)
-    → IfSome (map.get files fresh) (λ bytes. after ≡ Some (with_object (objects_in files) path bytes)) → IsSomeAnd found (λ bytes. after ≡ Some (with_object (objects_in files) path bytes))
-stored_in files fresh path None after h k = h
-stored_in files fresh path (Some bytes) after h k = subst (λ f. IfSome f (λ b. after ≡ Some (with_object (objects_in files) path b))) h k
-
--- a fresh file with a content that gets a path sets the object there to it
-pub stored : (files : Option Files) (fresh path : List ℕ) (before after : Option Objects) (content : Content) → Keeps before (objects_of files) → Holds files fresh before content → Publishes files fresh path after → Stores before path content after
-stored None fresh path before after content kept h k = subst (λ o. Stores o path content after) (sym h) k
-stored (Some told) fresh path before after content kept h k =
-    subst (λ o. Stores o path content after) kept
-    (stored_in told fresh path (content_in (objects_in told) content) after (subst (λ o. IsSomeAnd o (λ t. IsSomeAnd (content_in t content) (λ bytes. map.get told fresh ≡ Some bytes))) (sym kept) h) k)
 
 copied_from : (objects : Objects) (source path : List ℕ) (found : Option (List ℕ)) (after : Option Objects) → map.get objects source ≡ found → IsSomeAnd found (λ bytes. after ≡ Some (with_object objects path bytes))
     → (bytes : List ℕ) × (map.get objects source ≡ Some bytes) × (after ≡ Some (with_object objects path bytes))

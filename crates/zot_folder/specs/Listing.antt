@@ -3,18 +3,26 @@ use Rattle.std.specs.Prelude.{◌≡◌, ◌≢◌, ℕ, ◌⊎◌, List, [], �
 use Rattle.std.specs.declared.cmp.Ordering.TheVariants.{Less}
 use Rattle.zot_outside.specs.Objects.{path_cmp}
 
--- the path of a name in a folder; an empty path is the root's
+-- what the paths in a folder begin with; an empty path is the root's
+abbrev pub front : List ℕ → List ℕ
+front [] = []
+front (b ∷ bs) = (b ∷ bs) ++ 47 ∷ []
+
+-- the path of a name in a folder
 abbrev pub child_path : List ℕ → List ℕ → List ℕ
 child_path [] name = name
 child_path (b ∷ bs) name = (b ∷ bs) ++ 47 ∷ name
 
 -- a path is that of a name in a folder, with a slash after it or none
 abbrev pub IsEntry : List ℕ → List ℕ → List ℕ → Type 0
-IsEntry folder name path = (path ≡ child_path folder name) ⊎ (path ≡ child_path folder name ++ 47 ∷ [])
+IsEntry folder name path = (path ≡ child_path folder name) ⊎ (path ≡ child_path folder (name ++ 47 ∷ []))
 
--- a path is that of a file in a folder, or of a folder in it, which ends with a slash; its name has none
-abbrev pub IsChild : List ℕ → List ℕ → Type 0
-IsChild folder path = (name : List ℕ) × All (λ b. b ≢ 47) name × IsEntry folder name path
+-- a path is that of a file in a folder, or of a folder in it, which ends with a slash; its name is one part
+pub record IsChild (folder path : List ℕ) : Type 0 where
+  pub name : List ℕ
+  pub plain : All (λ b. b ≢ 47) name
+  pub named : name ≢ []
+  pub entry : IsEntry folder name path
 
 -- a path is that of a file: it doesn't end with a slash
 abbrev pub IsFilePath : List ℕ → Type 0

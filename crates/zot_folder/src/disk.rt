@@ -74,6 +74,8 @@ impl<R: Files<File = File> + AllocGlobal + Clone + Drop> Disk<R> {
 impl<R: Files<File = File> + AllocGlobal + Clone + Drop> Tree for Disk<R> {
     ghost files = { λ _. None };
 
+    ghost limited = { λ _. tt };
+
     fn look(&mut self, alloc: Global, path: &str) -> io::Result<Option<Kind>> {
         let file = self.file(alloc, path)?;
         let found = look_below(&self.rt, file.as_str(), self.root.len())?;

@@ -6,7 +6,7 @@ ghost use Rattle.zot_folder.specs.Listing.{IsChild, IsEntry, child_path};
 use crate::answers::present;
 use crate::files::remove_unlocked;
 use crate::fresh::is_fresh;
-use crate::paths::below;
+use crate::paths::{below, names_object};
 use std::alloc::{AllocError, Global};
 use std::fs::{DirEntry, File, FileType, Files, ReadDir};
 use std::io::ErrorKind;
@@ -70,7 +70,7 @@ fn add(paths: &mut Vec<String>, path: Option<String>) -> Result<(), AllocError>
     Ok(())
 }
 
-// The path of an entry; a folder's ends with a slash. There is none for a name that begins with a dot, for what is neither a file nor a folder, and for what has just gone.
+// The path of an entry; a folder's ends with a slash. There is none for a name that can be no part of an object's path, for what is neither a file nor a folder, and for what has just gone.
 fn path_of<R: Files<File = File> + Drop>(
     rt: &R,
     alloc: Global,
@@ -80,12 +80,13 @@ fn path_of<R: Files<File = File> + Drop>(
     ensures child { IfOk result (λ found. IfSome found (λ path. IsChild folder.now (string_bytes path))) }
     ensures entry { IfOk result (λ found. IfSome found (λ path. IsEntry folder.now (dir_entry_name entry.now) (string_bytes path))) }
 {
-    if entry.file_name().starts_with('.') {
+    let name = entry.file_name();
+    if !names_object(name) {
         sweep(rt, entry);
         return Ok(None);
     }
     match present(entry.file_type())? {
-        Some(kind) => Ok(marked(alloc, folder, entry.file_name(), kind)?),
+        Some(kind) => Ok(marked(alloc, folder, name, kind)?),
         None => Ok(None),
     }
 }
@@ -104,14 +105,14 @@ fn marked(
     name: &str,
     kind: FileType,
 ) -> Result<Option<String>, AllocError>
-    ensures folder { IsDir kind → IfOk result (λ found. IsSomeAnd found (λ path. string_bytes path ≡ child_path folder.now name.now ++ 47 ∷ [])) }
+    ensures folder { IsDir kind → IfOk result (λ found. IsSomeAnd found (λ path. string_bytes path ≡ child_path folder.now (name.now ++ 47 ∷ []))) }
     ensures file { IsFile kind → IfOk result (λ found. IsSomeAnd found (λ path. string_bytes path ≡ child_path folder.now name.now)) }
     ensures entry { IfOk result (λ found. IfSome found (λ path. IsEntry folder.now name.now (string_bytes path))) }
     ensures other { IfOk result (λ found. MatchOption found ((IsDir kind → ⊥) × (IsFile kind → ⊥)) (λ _. IsDir kind ⊎ IsFile kind)) }
 {
     if kind.is_dir() {
-        let path = child(alloc, folder, name)?;
-        Ok(Some(format!(in alloc; "{path}/")?))
+        let name = format!(in alloc; "{name}/")?;
+        Ok(Some(child(alloc, folder, name.as_str())?))
     } else if kind.is_file() {
         Ok(Some(child(alloc, folder, name)?))
     } else {

@@ -1,6 +1,6 @@
 //! Open files.
-ghost use Rattle.std.specs.Prelude.{◌≡◌, ◌<◌, ◌≤◌, IfOk, length, take};
-ghost use Rattle.zot_outside.specs.Streams.{IsOver, Takes};
+ghost use Rattle.std.specs.Prelude.{◌≡◌, ◌<◌, ◌≤◌, IfOk, IfSome, OnOk, length, take};
+ghost use Rattle.zot_outside.specs.Streams.{Appends, IsOver, Takes};
 
 use std::alloc::Global;
 use std::fs::{File, Files, OpenOptions, TryLockError};
@@ -37,10 +37,19 @@ fn fill<S: Read>(source: &mut S, buf: &mut [u8]) -> io::Result<usize>
 }
 
 /// Writes all that a reader has left to a writer, in large pieces.
-pub fn copy_all<S: Read, W: Write>(alloc: Global, source: &mut S, sink: &mut W) -> io::Result<()> {
+pub fn copy_all<S: Read, W: Write>(alloc: Global, source: &mut S, sink: &mut W) -> io::Result<()>
+    ensures { OnOk result (IfSome (S.remaining source.old) (λ left. Appends (W.contents sink.old) left (W.contents sink.new))) }
+{
     let mut buf = vec![in alloc; 0; PIECE]?;
+    copy_by(source, sink, buf.as_mut_slice())
+}
+
+// The same in pieces as large as a buffer.
+fn copy_by<S: Read, W: Write>(source: &mut S, sink: &mut W, buf: &mut [u8]) -> io::Result<()>
+    ensures { OnOk result (IfSome (S.remaining source.old) (λ left. Appends (W.contents sink.old) left (W.contents sink.new))) }
+{
     for _ in 0..u64::MAX {
-        let n = fill(source, buf.as_mut_slice())?;
+        let n = fill(source, buf)?;
         sink.write_all(&buf[..n])?;
         if n < buf.len() {
             return Ok(());

@@ -1,8 +1,11 @@
 //! A folder as a store.
-ghost use Rattle.std.specs.Prelude.{◌≡◌, IfOk, IfSome, None, string_bytes};
+ghost use Rattle.std.specs.Prelude.{◌≡◌, IfOk, IfSome, option_map, string_bytes};
+ghost use Rattle.std.proofs.Props.{props};
 ghost use Rattle.std.specs.declared.cmp.Ordering.TheVariants.{Less};
+ghost use Rattle.zot_folder.specs.Held.{Walks};
+ghost use Rattle.zot_folder.specs.Trees.{objects_of};
 ghost use Rattle.zot_outside.specs.Faults.{HasStoreCause, OnMissing};
-ghost use Rattle.zot_outside.specs.Objects.{path_cmp};
+ghost use Rattle.zot_outside.specs.Objects.{Follows, Keeps, path_cmp};
 
 use crate::answers::{done, fault, found};
 use crate::disk::Disk;
@@ -11,6 +14,7 @@ use crate::tree::{Content, Tree};
 use crate::walk::{Walk, next_file};
 use crate::writing::{copy_object, extend_object, remove_object, write_object};
 use std::alloc::{AllocError, Global};
+use std::fs::{File, Files};
 use zot_outside::{Failed, Store, StoreResult};
 
 /// The files of a tree as a store: each object is a file, at its path. Over a folder of the system it doesn't tell its objects. It counts each call of the system that failed.
@@ -23,13 +27,14 @@ use zot_outside::{Failed, Store, StoreResult};
 ///
 /// Where the system fails in the last step, as when the names in a folder can't be brought to the disk after the file was renamed, the call fails though the folder has the new object; and an `append` that can't be cut back leaves a part of its bytes.
 #[derive(Drop)]
-pub struct FolderStore<T> {
+pub struct FolderStore<T: Tree> {
     tree: T,
     walk: Walk,
     faults: u64,
+    ghost walked: { Walks (objects_of (T.files tree)) walk } by { Prim.hlevel props },
 }
 
-impl<R: Drop> FolderStore<Disk<R>> {
+impl<R: Files<File = File> + AllocGlobal + Clone + Drop> FolderStore<Disk<R>> {
     /// The store of the folder of this name. It takes memory for the name.
     pub fn new(rt: R, alloc: Global, root: &str) -> Result<FolderStore<Disk<R>>, AllocError>
         ensures { IfOk result (λ store. store.faults ≡ 0) }
@@ -43,11 +48,11 @@ impl<R: Drop> FolderStore<Disk<R>> {
 }
 
 impl<T: Tree> Store for FolderStore<T> {
-    ghost objects = { λ _. None };
+    ghost objects = { λ s. objects_of (T.files s.tree) };
 
     ghost faults = { λ s. s.faults };
 
-    ghost limited = { λ _. tt };
+    ghost limited = { λ s. T.limited s.tree };
 
     fn size(&mut self, alloc: Global, path: &str) -> StoreResult<u64> {
         let size = object_size(&mut self.tree, alloc, path);
@@ -85,6 +90,8 @@ impl<T: Tree> Store for FolderStore<T> {
 
     fn next(&mut self, alloc: Global, after: &str) -> StoreResult<Option<String>>
         ensures cause { HasStoreCause self.old.faults self.new.faults result }
+        ensures kept { Keeps (objects_of (T.files self.old.tree)) (objects_of (T.files self.new.tree)) }
+        ensures ok { IfOk result (λ found. Follows (objects_of (T.files self.old.tree)) after.now (option_map string_bytes found)) }
         ensures missing { OnMissing result ⊥ }
         ensures above { IfOk result (λ found. IfSome found (λ path. path_cmp after.now (string_bytes path) ≡ Less)) }
     {

@@ -1,12 +1,13 @@
 //! The folders of the system, and what lies in them.
-ghost use Rattle.std.specs.Prelude.{◌≡◌, IfErr, IfOk, IsTrue, ◌↔◌, None, Some};
+ghost use Rattle.std.specs.Prelude.{◌≡◌, ◌↔◌, ◌∷◌, ◌++◌, ℕ, List, IfErr, IfOk, IfSome, IsFalse, IsTrue, MatchOption, None, Some, false, length, true};
 ghost use Rattle.std.specs.IoError.{error_kind};
 ghost use Rattle.std.specs.Fs.{IsDir, IsFile, file_type, metadata_len};
 ghost use Rattle.std.specs.declared.io.ErrorKind.TheVariants.{NotFound};
+ghost use Rattle.zot_folder.specs.Paths.{IsParentOf};
 ghost use Rattle.zot_folder.specs.declared.tree.Kind.TheVariants as kinds;
 
 use crate::answers::present;
-use crate::paths::folder_of;
+use crate::paths::{begins_with_slash, folder_of};
 use crate::tree::Kind;
 use std::fs::{Files, Metadata, OpenFile};
 use std::io::ErrorKind;
@@ -27,9 +28,11 @@ pub fn look_below<R: Files>(rt: &R, path: &str, root: usize) -> io::Result<Optio
 }
 
 // What stands before the slash at a place of a path, if one stands there.
-fn front(path: &str, end: usize) -> Option<&str> {
+fn front(path: &str, end: usize) -> Option<&str>
+    ensures { IfSome result (λ front. (rest : List ℕ) × (path.now ≡ front.now ++ 47 ∷ rest) × (length front.now ≡ end)) }
+{
     match path.split_at_checked(end) {
-        Some((front, rest)) if rest.starts_with('/') => Some(front),
+        Some((front, rest)) if begins_with_slash(rest.as_bytes()) => Some(front),
         _ => None,
     }
 }
@@ -109,7 +112,11 @@ fn make_one<R: Files>(rt: &R, folder: &str, follows: bool) -> io::Result<()> {
 }
 
 // Whether a folder is there. Anything else in its place is an error.
-fn is_folder(found: Option<Kind>) -> io::Result<bool> {
+fn is_folder(found: Option<Kind>) -> io::Result<bool>
+    ensures answer { IfOk result (λ there. MatchOption found (IsFalse there) (λ kind. (kind ≡ kinds.Folder) × IsTrue there)) }
+    ensures folder { found ≡ Some kinds.Folder → result ≡ Ok true }
+    ensures nothing { found ≡ None → result ≡ Ok false }
+{
     match found {
         Some(Kind::Folder) => Ok(true),
         Some(_) => Err(io::Error::from(ErrorKind::NotADirectory)),
@@ -134,7 +141,9 @@ pub fn sync_parent<R: Files>(rt: &R, path: &str) -> io::Result<()> {
 }
 
 // The folder that a path of the system lies in: that of the program if the path has no slash.
-fn parent_of(path: &str) -> &str {
+fn parent_of(path: &str) -> &str
+    ensures { IsParentOf path.now result.now }
+{
     match path.rsplit_once('/') {
         Some(cut) if cut.0.is_empty() => "/",
         Some(cut) => cut.0,

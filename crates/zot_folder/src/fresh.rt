@@ -1,5 +1,5 @@
 //! The paths of fresh files, which are written first and then get an object's path.
-ghost use Rattle.std.specs.Prelude.{◌≡◌, ◌∷◌, ◌++◌, false, IfOk, string_bytes};
+ghost use Rattle.std.specs.Prelude.{◌≡◌, ◌∷◌, ◌++◌, false, IfOk, IsTrue, string_bytes};
 ghost use Rattle.zot_folder.specs.Paths.{is_object_path};
 
 use std::alloc::{AllocError, Global};
@@ -29,8 +29,10 @@ fn hidden(alloc: Global, name: &str) -> Result<String, AllocError>
     format!(in alloc; ".{name}")
 }
 
-/// Whether a name is that of a fresh file: `.zot-new-` and a number.
-pub fn is_fresh(name: &str) -> bool {
+/// Whether a name is that of a fresh file: `.zot-new-` and a number. No object's file has such a name.
+pub fn is_fresh(name: &str) -> bool
+    ensures { IsTrue result → is_object_path name.now ≡ false }
+{
     match name.strip_prefix(".zot-new-") {
         Some(number) => number.parse::<u32>().is_ok(),
         None => false,

@@ -1,7 +1,7 @@
 //! Where a walk stands.
-ghost use Rattle.std.specs.Prelude.{◌≡◌, ◌⊎◌, IfOk, IfSome, IsSomeAnd, None, Some, option_map, string_bytes};
-ghost use Rattle.zot_folder.specs.Listing.{IsFilePath};
-ghost use Rattle.zot_folder.specs.Steps.{OnEnd};
+ghost use Rattle.std.specs.Prelude.{◌≡◌, IfOk, None, Some, option_map, string_bytes};
+ghost use Rattle.zot_folder.specs.Steps.{IsStep};
+ghost use Rattle.zot_folder.specs.Walks.{IsFolderOf};
 
 use crate::paths::folder_of;
 use std::alloc::{AllocError, Global};
@@ -27,7 +27,8 @@ pub enum Step {
 impl Spot {
     /// Where a walk begins that looks for the path after one.
     pub fn at(alloc: Global, after: &str) -> Result<Spot, AllocError>
-        ensures { IfOk result (λ spot. string_bytes spot.bound ≡ after.now) }
+        ensures bound { IfOk result (λ spot. string_bytes spot.bound ≡ after.now) }
+        ensures folder { IfOk result (λ spot. IsFolderOf after.now (string_bytes spot.folder)) }
     {
         Ok(Spot {
             folder: String::from_str(alloc, folder_of(after))?,
@@ -51,8 +52,7 @@ impl Spot {
 
     /// Goes on from the least path in the folder that is greater than the bound: a file is the end, a folder is entered, and a folder that has no more is left.
     pub fn follow(&mut self, alloc: Global, least: Option<String>) -> Result<Step, AllocError>
-        ensures end { IfOk result (λ step. OnEnd step (λ found. IfSome found (λ path. IsFilePath path × (option_map string_bytes least ≡ Some path)))) }
-        ensures bound { IfOk result (λ _. (string_bytes self.new.bound ≡ string_bytes self.old.bound) ⊎ IsSomeAnd least (λ path. string_bytes path ≡ string_bytes self.new.bound)) }
+        ensures { IfOk result (λ step. IsStep (option_map string_bytes least) self.old step self.new) }
     {
         match least {
             Some(path) => self.enter(alloc, path),
@@ -62,8 +62,7 @@ impl Spot {
 
     // Enters a folder, whose path ends with a slash, or ends with a file.
     fn enter(&mut self, alloc: Global, path: String) -> Result<Step, AllocError>
-        ensures end { IfOk result (λ step. OnEnd step (λ found. IsFilePath (string_bytes path) × (found ≡ Some (string_bytes path)))) }
-        ensures bound { IfOk result (λ _. (string_bytes self.new.bound ≡ string_bytes self.old.bound) ⊎ (string_bytes path ≡ string_bytes self.new.bound)) }
+        ensures { IfOk result (λ step. IsStep (Some (string_bytes path)) self.old step self.new) }
     {
         match path.as_str().strip_suffix('/') {
             Some(folder) => {
@@ -77,8 +76,7 @@ impl Spot {
 
     // Leaves the folder for the one that it lies in, or ends if it is the root.
     fn leave(&mut self, alloc: Global) -> Result<Step, AllocError>
-        ensures end { IfOk result (λ step. OnEnd step (λ found. found ≡ None)) }
-        ensures bound { self.new.bound ≡ self.old.bound }
+        ensures { IfOk result (λ step. IsStep None self.old step self.new) }
     {
         if self.folder.is_empty() {
             return Ok(Step::End(None));

@@ -1,7 +1,8 @@
 //! The files below a folder, and what is done to them.
-ghost use Rattle.std.specs.Prelude.{◌≡◌, All, IfOk, IsFalse, IsTrue, None, OnErr, OnOk, string_bytes};
+ghost use Rattle.std.specs.Prelude.{◌≡◌, All, IfOk, IfSome, IsFalse, IsTrue, None, OnErr, OnOk, map as each, string_bytes};
 ghost use Rattle.zot_folder.specs.Listing.{IsChild};
-ghost use Rattle.zot_folder.specs.Trees.{Becomes, Cuts, Grows, KeepsOthers, Receives, Renames, ShowsAt, Tears};
+ghost use Rattle.zot_folder.specs.Trees.{Becomes, Cuts, Grows, KeepsOthers, Receives, Renames, ShowsAt, Tears, objects_of};
+ghost use Rattle.zot_folder.specs.Walks.{IsListing};
 ghost use Rattle.zot_outside.specs.Objects.{Keeps, ReadsAt};
 
 use std::alloc::Global;
@@ -29,8 +30,9 @@ pub enum Content<'a> {
 
 /// The files below a root folder, by their paths. The root's own path is empty. Below the root no link is followed: it is no file and no folder.
 pub trait Tree {
-    ghost use Rattle.std.specs.Prelude.{Option};
-    ghost use Rattle.zot_folder.specs.Trees.{Files};
+    ghost use Rattle.std.specs.Prelude.{◌<◌, ◌^◌, IfSome, Option};
+    ghost use Rattle.std.specs.FinMap as map;
+    ghost use Rattle.zot_folder.specs.Trees.{Files, objects_of};
 
     // The files by their paths, or none if the tree doesn't tell.
     ghost files: { Self → Option Files };
@@ -48,7 +50,8 @@ pub trait Tree {
     /// The paths in a folder, in no order: those of its files, and those of its folders, which end with a slash. A folder that isn't there has none.
     fn list(&mut self, alloc: Global, folder: &str) -> io::Result<Vec<String>>
         ensures kept { Keeps (files self.old) (files self.new) }
-        ensures children { IfOk result (λ paths. All (λ path. IsChild folder.now (string_bytes path)) paths.items) };
+        ensures children { IfOk result (λ paths. All (λ path. IsChild folder.now (string_bytes path)) paths.items) }
+        ensures lists { IfOk result (λ paths. IfSome (objects_of (files self.old)) (λ objects. IsListing objects folder.now (each string_bytes paths.items))) };
 
     /// Makes a folder, and those on the way, where they aren't there.
     fn make_folder(&mut self, alloc: Global, folder: &str) -> io::Result<()>
@@ -86,4 +89,7 @@ pub trait Tree {
     /// Removes the folders that a path lies in, from the innermost on, as long as they are empty.
     fn tidy(&mut self, alloc: Global, path: &str)
         ensures { Keeps (files self.old) (files self.new) };
+
+    // A tree that tells its files has fewer than 2^63 objects.
+    ghost limited: { (s : Self) → IfSome (objects_of (files s)) (λ told. map.len told < 2 ^ 63) };
 }

@@ -173,6 +173,22 @@ after_held objects after path listed =
     let above = is_greater after path (map.keys objects) any in
     (contains_key-keys objects path ∙ sym (stays_listed after path (map.keys objects) above) ∙ any, less _ above)
 
+-- a test that passes fewer
+filter_fewer : {X : Type 0} (p q : X → Bool) (xs : List X) → ((x : X) → p x ≡ true → q x ≡ true) → length (filter p xs) ≤ length (filter q xs)
+filter_fewer p q [] h = omega arith
+filter_fewer p q (x ∷ xs) h =
+    let rest = filter_fewer p q xs h in
+    elim (p x) as (λ b. p x ≡ b → length (cond b (x ∷ filter p xs) (filter p xs)) ≤ length (cond (q x) (x ∷ filter q xs) (filter q xs))) [
+      | true ↦ λ passes. let both = cond-true (q x) (x ∷ filter q xs) (filter q xs) (h x passes) in omega (arith, rest, ap length both)
+      | false ↦ λ _.
+          elim (q x) as (λ b. length (filter p xs) ≤ length (cond b (x ∷ filter q xs) (filter q xs))) [ true ↦ omega (arith, rest) | false ↦ rest ]
+    ] refl
+
+-- fewer paths follow a greater one
+pub fewer_after : (objects : Objects) (after later : List ℕ) → path_cmp after later ≡ Less → length (paths_after objects later) ≤ length (paths_after objects after)
+fewer_after objects after later h =
+    filter_fewer (is_below later) (is_below after) (map.keys objects) (λ path above. ap is_lt (byte_order.total.trans after later path h (less _ above)))
+
 -- which path is next is determined
 pub one_next : (objects : Objects) (after one other : List ℕ) → IsNext objects after one → IsNext objects after other → one ≡ other
 one_next objects after one other h k =

@@ -37,7 +37,7 @@ Takes-consumed None after bytes h = tt
 Takes-consumed (Some left) None bytes h = absurd h
 Takes-consumed (Some left) (Some rest) bytes h = (rest, h, refl)
 
-Appends-known : (before after : Option (List ℕ)) (bytes : List ℕ) → known.Appends before after bytes → Appends before bytes after
+pub Appends-known : (before after : Option (List ℕ)) (bytes : List ℕ) → known.Appends before after bytes → Appends before bytes after
 Appends-known None after bytes h = tt
 Appends-known (Some held) None bytes h = absurd h
 Appends-known (Some held) (Some grown) bytes h = ap Some h

@@ -3,7 +3,7 @@ use Rattle.std.proofs.Common.{◌≡◌, ℕ, ◌+◌, ◌<◌, ◌≤◌, ◌^�
 use Rattle.std.proofs.lemmas.Bool.{true≢false}
 use Rattle.std.specs.FinMap as map
 use Rattle.std.specs.declared.cmp.Ordering.TheVariants.{Less}
-use Rattle.zot_outside.proofs.ListingLemmas.{length-paths_after, paths_after-next}
+use Rattle.zot_outside.proofs.ListingLemmas.{fewer_after, length-paths_after, paths_after-next}
 use Rattle.zot_outside.proofs.ObjectLemmas.{untold}
 use Rattle.zot_outside.specs.Objects.{Follows, Keeps, Objects, path_cmp, paths_after}
 
@@ -28,3 +28,8 @@ not_greater before after last path less is said next kept =
 pub asked_out : (objects : Option Objects) (last : List ℕ) (asked : ℕ) → 2 ^ 63 ≤ asked → IfSome objects (λ told. asked + length (paths_after told last) < 2 ^ 63) → IsNone objects
 asked_out None last asked many h = refl
 asked_out (Some told) last asked many h = absurd (omega (arith, many, h))
+
+-- a walk that passes over paths has as much
+pub room_skipped : (objects : Option Objects) (last later : List ℕ) (asked : ℕ) → path_cmp last later ≡ Less → IfSome objects (λ told. asked + length (paths_after told last) < 2 ^ 63) → IfSome objects (λ told. asked + length (paths_after told later) < 2 ^ 63)
+room_skipped None last later asked h room = tt
+room_skipped (Some told) last later asked h room = omega (arith, fewer_after told last later h, room)

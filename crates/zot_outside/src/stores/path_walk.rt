@@ -1,8 +1,8 @@
 //! A walk through the paths of any store.
-ghost use Rattle.std.specs.Prelude.{◌≡◌, ◌↔◌, [], IfOk, IfSome, IsTrue, OnOk, option_map, string_bytes};
+ghost use Rattle.std.specs.Prelude.{◌≡◌, ◌≢◌, ◌↔◌, [], IfOk, IfSome, IsTrue, OnOk, Option, option_map, string_bytes};
 ghost use Rattle.std.specs.declared.cmp.Ordering.TheVariants.{Less};
 ghost use Rattle.zot_outside.specs.Faults.{HasStoreCause, OnMissing};
-ghost use Rattle.zot_outside.specs.Objects.{Follows, Keeps, path_cmp};
+ghost use Rattle.zot_outside.specs.Objects.{Follows, Keeps, Objects, path_cmp};
 ghost use Rattle.zot_outside.specs.PathWalks.{HasRoom, last_path};
 
 use crate::stores::whole::contradicted;
@@ -31,12 +31,15 @@ impl PathWalk {
         }
     }
 
-    /// Goes on after a path. The walk has jumped if that is greater than the last one.
-    pub fn go_on_after(&mut self, alloc: Global, path: &str) -> Result<(), AllocError>
-        ensures last { OnOk result (last_path self.new ≡ path.now) }
-        ensures asked { self.new.asked ≡ self.old.asked }
+    /// Passes over the paths up to this one, and this one. A walk that is there already stays.
+    pub fn skip_to(&mut self, alloc: Global, path: &str) -> Result<(), AllocError>
+        ensures skipped { OnOk result (path_cmp (last_path self.old) path.now ≡ Less → last_path self.new ≡ path.now) }
+        ensures stays { OnOk result (path_cmp (last_path self.old) path.now ≢ Less → self.new ≡ self.old) }
+        ensures room { (objects : Option Objects) → HasRoom objects self.old → HasRoom objects self.new }
     {
-        self.last = String::from_str(alloc, path)?;
+        if is_less(self.last.as_str(), path) {
+            self.last = String::from_str(alloc, path)?;
+        }
         Ok(())
     }
 
