@@ -23,7 +23,7 @@ invariant_of-self c =
     let there : is_some (map.get c.self.inside.manifests.manifests c.args.digest.now) ≡ true = ap is_some (sym c.in-Some.ensures) in
     let gone = ap (λ (t : Table). t.manifests) (c.remove-2.ensures.removed (c.remove-2.ensures.was ∙ there)) in (
       reads_remove c.self.inside.manifests.manifests c.remove-2.new.self.manifests c.self.inside.blobs c.args.digest.now gone c.self.invariant.0,
-      subjects_gone c.self.inside.manifests.manifests c.remove-2.new.self.manifests c.self.inside.subjects.index.sets c.remove.new.self.index.sets c.args.digest.now _ gone c.remove.ensures c.self.invariant.1,
+      subjects_gone c.self.inside.manifests.manifests c.remove-2.new.self.manifests c.self.inside.subjects.index.sets c.remove.new.self.index.sets c.args.digest.now c.in-Some.kept.now.reading gone c.remove.ensures c.self.invariant.1,
     )
 
 pub returns : goal.returns
