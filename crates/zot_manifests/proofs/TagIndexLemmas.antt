@@ -1,6 +1,6 @@
 -- The tags that are listed under the digests of manifests.
 use Rattle.std.proofs.Common.{◌≡◌, ◌≢◌, ℕ, Bool, true, false, cond, not, List, Option, Some, None, refl, sym, ap, subst, ◌∙◌}
-use Rattle.std.specs.Prelude.{◌&&◌, ◌||◌, Result, Ok, Err, OnErr, OnOk}
+use Rattle.std.specs.Prelude.{◌&&◌, Result, Ok, Err, OnErr, OnOk}
 use Rattle.std.specs.BTreeMap.{get, is_at}
 use Rattle.std.specs.BTreeSet.{BTreeSet}
 use Rattle.std.specs.Cmp.Lexicographic.{nat_list_cmp_total}
@@ -108,18 +108,3 @@ one_stays old text digest isnt q = split (eq_by_cmp byte_cmp q text) refl where
   split : (b : Bool) → eq_by_cmp byte_cmp q text ≡ b → finite.get old q ≡ kept_unless b digest (finite.get old q)
   split true tied = ap (λ t. cond t None (finite.get old q)) (sym (ap (λ k. is_tag_of digest (finite.get old k)) (tied_keys byte_order q text tied) ∙ isnt))
   split false apart = refl
-
--- what went after some texts, and after one more
-pub unless_more : (a b : Bool) (digest : List ℕ) (x : Option StoredTag) → kept_unless b digest (kept_unless a digest x) ≡ kept_unless (a || b) digest x
-unless_more false b digest x = refl
-unless_more true b digest x = split (is_tag_of digest x) refl where
-  nothing : (c : Bool) → kept_unless c digest None ≡ None
-  nothing true = refl
-  nothing false = refl
-
-  split : (t : Bool) → is_tag_of digest x ≡ t → kept_unless b digest (cond t None x) ≡ cond t None x
-  split true is = nothing b
-  split false is = same b where
-    same : (c : Bool) → kept_unless c digest x ≡ x
-    same true = ap (λ t. cond t None x) is
-    same false = refl

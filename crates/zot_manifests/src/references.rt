@@ -1,5 +1,5 @@
 //! Which manifests refer to a digest.
-ghost use Rattle.std.specs.Prelude.{◌≡◌, ℕ, List, OnOk};
+ghost use Rattle.std.specs.Prelude.{OnOk};
 ghost use Rattle.zot_digest.specs.ByteMap.{byte_cmp};
 ghost use Rattle.zot_manifests.specs.Index.{Adds, KeepsAll, Removes};
 ghost use Rattle.zot_media.specs.References.{has_digest, refers};

@@ -60,8 +60,7 @@ impl Tags {
         ensures err { OnErr result (self.new ≡ self.old) }
     {
         let digest = entry.digest();
-        self.index
-            .list(alloc, digest, tag.words().copy(alloc)?)?;
+        self.index.list(alloc, digest, tag.words().copy(alloc)?)?;
         unlist_moved(&self.map, &mut self.index, &tag, &digest);
         self.map.set(tag, entry)
     }

@@ -1,5 +1,5 @@
 -- The manifests that stand under a digest in the index are those of the list from scratch.
-use Rattle.std.proofs.Common.{◌≡◌, ◌≢◌, ℕ, Bool, true, false, cond, List, [], ◌∷◌, ◌++◌, map, Option, Some, None, is_some, Global, Vec, refl, sym, ap, ◌∙◌, unwrap_or}
+use Rattle.std.proofs.Common.{◌≡◌, ℕ, Bool, true, false, cond, List, [], ◌∷◌, ◌++◌, map, Option, Some, None, is_some, Global, Vec, refl, sym, ap, ◌∙◌, unwrap_or}
 use Rattle.std.specs.Prelude.{◌&&◌, IfOk, OnOk, Result, Ok, Err}
 use Rattle.std.specs.BTreeMap.{get}
 use Rattle.std.specs.BTreeSet.{BTreeSet}

@@ -7,8 +7,8 @@ use Rattle.std.specs.List.Sorted.{IsStrictlySortedBy}
 use Rattle.std.specs.Map.{keys_of}
 use Rattle.zot_digest.specs.ByteMap.{ByteMap, byte_cmp}
 use Rattle.zot_manifests.proofs.IndexLemmas.{is_now, lists_insert, lists_kept, lists_none, lists_remove, others_stay}
-use Rattle.zot_manifests.proofs.SetLemmas.{adds_keep, just_keep}
-use Rattle.zot_manifests.specs.Index.{Adds, KeepsJust, Removes, Sets}
+use Rattle.zot_manifests.proofs.SetLemmas.{adds_keep}
+use Rattle.zot_manifests.specs.Index.{Adds, Removes, Sets}
 use Rattle.zot_manifests.specs.Table.{Table, plain_manifest, plain_manifests, with_manifest}
 use Rattle.zot_manifests.specs.declared.kept.Kept.{Kept}
 use Rattle.zot_maps.proofs.Entries.{AllFound, all_found, entries_of_map, keys_ordered}
@@ -38,10 +38,6 @@ names kept subject = says_of kept.reading subject
 
 pub subjects_none : (manifests : ByteMap Kept) (sets : Sets (List ℕ)) → manifests ≡ finite.empty → ListsSubjects manifests sets
 subjects_none manifests sets is = lists_none names manifests sets is
-
--- where no manifest came, and the same is listed
-pub subjects_same : (manifests : ByteMap Kept) (before after : Sets (List ℕ)) → KeepsJust byte_cmp before after → ListsSubjects manifests before → ListsSubjects manifests after
-subjects_same manifests before after just all = lists_kept names manifests manifests before after refl (just_keep byte_cmp before after just) all
 
 -- where a manifest came that was listed before
 pub subjects_put : (old new : Table) (before after : Sets (List ℕ)) (digest : List ℕ) (tag : Option (List ℕ)) (media : Media) (arrived : ℕ) (reading : Reading) → new ≡ with_manifest arrived old digest tag media reading
