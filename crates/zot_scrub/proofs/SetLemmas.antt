@@ -97,9 +97,9 @@ found_marked digest [] = refl
 found_marked digest (other ∷ digests) =
     ap (cond (is_at (byte_cmp digest) other) (Some true)) (found_marked digest digests)
     ∙ nested (is_at (byte_cmp digest) other) (list_any (is_at (byte_cmp digest)) digests) where
-  nested : (a b : Bool) → cond a (Some true) (cond b (Some true) None) ≡ cond (a || b) (Some true) None
-  nested true b = refl
-  nested false b = refl
+      nested : (a b : Bool) → cond a (Some true) (cond b (Some true) None) ≡ cond (a || b) (Some true) None
+      nested true b = refl
+      nested false b = refl
 
 unmarked : (digests : List (List ℕ)) → map (λ (e : List ℕ × Bool). e.0) (marked digests) ≡ digests
 unmarked [] = refl

@@ -3,8 +3,8 @@ ghost use Rattle.std.specs.Prelude.{◌≡◌, IfOk};
 ghost use Rattle.zot_model.specs.Findings.{findings};
 
 use crate::damaged::damaged;
-use crate::missing::add_missing;
 use crate::digest_set::stored_digests;
+use crate::missing::add_missing;
 use std::alloc::{AllocError, Global};
 use std::thread::Threads;
 use zot_digest::{Bytes, Digest};

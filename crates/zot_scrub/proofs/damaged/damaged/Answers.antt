@@ -10,10 +10,10 @@ use Rattle.zot_scrub.proofs.damaged.damaged.Goals as goal
 pub returns : goal.returns
 returns g c =
     let slice =
-        ap (λ it. iter_slice (min_len_base (filter_base it))) c.map.ensures.base
-        ∙ ap (λ it. iter_slice (min_len_base it)) c.filter.ensures.base
-        ∙ ap (λ it. iter_slice it) c.with_min_len.ensures.base
-        ∙ c.par_iter.ensures in
+    ap (λ it. iter_slice (min_len_base (filter_base it))) c.map.ensures.base
+    ∙ ap (λ it. iter_slice (min_len_base it)) c.filter.ensures.base
+    ∙ ap (λ it. iter_slice it) c.with_min_len.ensures.base
+    ∙ c.par_iter.ensures in
     IfOk-then c.collect.result _ _ c.collect.ensures (λ v h.
     let kept = h.1.1 in
     h.2
