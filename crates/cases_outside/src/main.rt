@@ -5,6 +5,7 @@
 
 mod folders;
 mod memory;
+mod parts;
 mod scripts;
 mod streams;
 
@@ -27,6 +28,7 @@ fn call(rt: HostRuntime, case: &Case, answer: &mut Answer) {
         "memory" => scripts::answers(answer, &mut SteadyStore::new(rt.alloc()), given),
         "failing" => memory::failing(answer, given),
         "clock" => memory::clock(answer, given),
+        "split" => parts::split(answer, given),
         "source" => streams::source(answer, given),
         "steady" => streams::steady(answer, given),
         "sink" => streams::sink(answer, given),

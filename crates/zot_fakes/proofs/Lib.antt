@@ -1,2 +1,4 @@
 mod MapLemmas
+mod OwnerLemmas
 mod SourceLemmas
+mod SplitLemmas

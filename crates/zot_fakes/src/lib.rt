@@ -10,6 +10,8 @@ mod memory_sink;
 mod memory_source;
 mod memory_store;
 mod object_map;
+mod owners;
+mod splitting;
 mod steady_source;
 mod steady_store;
 
@@ -18,5 +20,6 @@ pub use crate::laws::empty_list_fails_none;
 pub use crate::memory_sink::MemorySink;
 pub use crate::memory_source::MemorySource;
 pub use crate::memory_store::MemoryStore;
+pub use crate::splitting::split_parts;
 pub use crate::steady_source::SteadySource;
 pub use crate::steady_store::SteadyStore;

@@ -18,6 +18,7 @@ mod tree;
 mod walk;
 mod writing;
 
+pub use crate::answers::{found, present};
 pub use crate::disk::Disk;
 pub use crate::folder_store::FolderStore;
 pub use crate::tree::{Content, Kind, Tree};

@@ -10,6 +10,8 @@ use Rattle.std.proofs.lemmas.Bool.{true≢false}
 use Rattle.std.proofs.lemmas.Slice.Eq.{bytes_eq-Decides}
 use Rattle.serde_json.specs.Data.{Data}
 use Rattle.zot_digest.specs.ByteMap.{byte_cmp}
+use Rattle.zot_maps.proofs.Entries.{AllFound, all_found, entries_ascend}
+use Rattle.zot_maps.proofs.Maps.{byte_order}
 use Rattle.zot_media.specs.Fields.{each}
 use Rattle.zot_layout.specs.Moments.{is_moment}
 use Rattle.zot_layout.specs.Notes.{listed_of}
@@ -23,11 +25,11 @@ use Rattle.zot_layout.specs.declared.listed.Listed.{Listed}
 use Rattle.zot_layout.specs.declared.parts.ManifestPart.{ManifestPart}
 use Rattle.zot_layout.specs.declared.parts.TagPart.{TagPart}
 use Rattle.zot_layout.proofs.ListedLemmas.{listed_with, pushed_by, tagged_back, untagged_back}
-use Rattle.zot_layout.proofs.SortLemmas.{AllFound, all_found, has_key, in_order, inserted, inserted_all}
+use Rattle.zot_layout.proofs.SortLemmas.{has_key, inserted, inserted_all}
 
 -- ---- lists
 
-all_of : {A : Type 0} (P Q : A → Type 0) → ((x : A) → P x → Q x) → (xs : List A) → AllByRecursion P xs → AllByRecursion Q xs
+pub all_of : {A : Type 0} (P Q : A → Type 0) → ((x : A) → P x → Q x) → (xs : List A) → AllByRecursion P xs → AllByRecursion Q xs
 all_of P Q f [] h = tt
 all_of P Q f (x ∷ xs) h = (f x h.0, all_of P Q f xs h.1)
 
@@ -47,7 +49,7 @@ pub map_twice : {A B C : Type 0} (f : A → B) (g : B → C) (h : A → C) → (
 map_twice f g h same [] = refl
 map_twice f g h same (x ∷ xs) = rw (same x, map_twice f g h same xs) refl
 
-map_joined : {A B : Type 0} (f : A → B) (xs ys : List A) → map f (xs ++ ys) ≡ map f xs ++ map f ys
+pub map_joined : {A B : Type 0} (f : A → B) (xs ys : List A) → map f (xs ++ ys) ≡ map f xs ++ map f ys
 map_joined f [] ys = refl
 map_joined f (x ∷ xs) ys = ap (λ rest. f x ∷ rest) (map_joined f xs ys)
 
@@ -55,18 +57,18 @@ flat_joined : {A B : Type 0} (f : A → List B) (xs ys : List A) → flat_map f 
 flat_joined f [] ys = refl
 flat_joined f (x ∷ xs) ys = ap (λ rest. f x ++ rest) (flat_joined f xs ys) ∙ sym (append_assoc (f x) (flat_map f xs) (flat_map f ys))
 
-any_joined : {A : Type 0} (p : A → Bool) (xs ys : List A) → list_any p (xs ++ ys) ≡ (list_any p xs || list_any p ys)
+pub any_joined : {A : Type 0} (p : A → Bool) (xs ys : List A) → list_any p (xs ++ ys) ≡ (list_any p xs || list_any p ys)
 any_joined p [] ys = refl
 any_joined p (x ∷ xs) ys = ap (λ b. p x || b) (any_joined p xs ys) ∙ assoc (p x) (list_any p xs) (list_any p ys) where
   assoc : (a b c : Bool) → (a || (b || c)) ≡ ((a || b) || c)
   assoc true b c = refl
   assoc false b c = refl
 
-left_or : (a b : Bool) → a ≡ true → (a || b) ≡ true
+pub left_or : (a b : Bool) → a ≡ true → (a || b) ≡ true
 left_or true b h = refl
 left_or false b h = absurd (true≢false (sym h))
 
-right_or : (a b : Bool) → b ≡ true → (a || b) ≡ true
+pub right_or : (a b : Bool) → b ≡ true → (a || b) ≡ true
 right_or true b h = refl
 right_or false b h = h
 
@@ -318,18 +320,18 @@ module _ (state : IndexState) (is : IsIndex state) where
   all_stand = stands pairs
 
   -- the manifests
-  found_manifests : AllFound (map manifest_entry manifests) (map pair_entry pairs)
+  found_manifests : AllFound byte_order (map manifest_entry manifests) (map pair_entry pairs)
   found_manifests =
       let at : IndexManifest → Type 0 = λ manifest. find byte_cmp manifest.digest (map manifest_entry manifests) ≡ Some (manifest_part manifest) in
       all_mapped (λ e. find byte_cmp e.0 (map manifest_entry manifests) ≡ Some e.1) pair_entry pairs
       (of_all state.tags (λ pair. at pair.0) manifests
       (all_of at (Each state.tags (λ pair. at pair.0)) (λ manifest found. (found, all_of (IsTagOf manifests) (λ tag. is_of manifest.digest tag ≡ true → at manifest) (λ tag may here. found) state.tags is.tags)) manifests
-      (all_unmapped (λ e. find byte_cmp e.0 (map manifest_entry manifests) ≡ Some e.1) manifest_entry manifests (all_found (map manifest_entry manifests) manifest_keys))))
+      (all_unmapped (λ e. find byte_cmp e.0 (map manifest_entry manifests) ≡ Some e.1) manifest_entry manifests (all_found byte_order (map manifest_entry manifests) manifest_keys))))
 
   manifests_back : (moment : ℕ) → with_manifests moment [] (map listed pairs) ≡ map manifest_entry manifests
   manifests_back moment =
       manifests_put moment pairs []
-      ∙ inserted_all (map pair_entry pairs) (map manifest_entry manifests) (in_order (map manifest_entry manifests) manifest_keys) found_manifests (λ q part. manifest_has state.tags q manifests part)
+      ∙ inserted_all (map pair_entry pairs) (map manifest_entry manifests) (entries_ascend byte_cmp (map manifest_entry manifests) manifest_keys) found_manifests (λ q part. manifest_has state.tags q manifests part)
 
   -- the tags
   abbrev TagFound : IndexTag → Type 0
@@ -345,7 +347,7 @@ module _ (state : IndexState) (is : IsIndex state) where
   all_flat [] h = tt
   all_flat (x ∷ xs) h = all_joined EntryFound (entry_under x.0.digest x.1) (tag_entries xs) h.0 (all_flat xs h.1)
 
-  found_tags : AllFound (map tag_entry state.tags) (tag_entries pairs)
+  found_tags : AllFound byte_order (map tag_entry state.tags) (tag_entries pairs)
   found_tags =
       let at : Pair → Type 0 = λ pair. AllByRecursion EntryFound (entry_under pair.0.digest pair.1) in
       all_flat pairs (of_all state.tags at manifests
@@ -353,13 +355,13 @@ module _ (state : IndexState) (is : IsIndex state) where
       (λ manifest real. (
         tt,
         all_of TagFound (λ tag. is_of manifest.digest tag ≡ true → at (manifest, Some tag)) (λ tag found here. (of_digest manifest.digest tag found here, tt)) state.tags
-            (all_unmapped EntryFound tag_entry state.tags (all_found (map tag_entry state.tags) tag_keys)),
+            (all_unmapped EntryFound tag_entry state.tags (all_found byte_order (map tag_entry state.tags) tag_keys)),
       )) manifests is.manifests))
 
   tags_back : (moment : ℕ) → with_tags moment [] (map listed pairs) ≡ map tag_entry state.tags
   tags_back moment =
       tags_put moment pairs []
-      ∙ inserted_all (tag_entries pairs) (map tag_entry state.tags) (in_order (map tag_entry state.tags) tag_keys) found_tags
+      ∙ inserted_all (tag_entries pairs) (map tag_entry state.tags) (entries_ascend byte_cmp (map tag_entry state.tags) tag_keys) found_tags
       (λ q part found. under_has state.tags q manifests (found_under state.tags q manifests state.tags part is.tags found))
 
   -- the state that is read is the one that was written

@@ -7,3 +7,4 @@ pub mod ListedLemmas
 pub mod BackLemmas
 pub mod IndexLemmas
 pub mod OrderLemmas
+pub mod GroupLemmas

@@ -2,10 +2,10 @@
 use Rattle.std.proofs.Common.{◌≡◌, ℕ, ◌<◌, ◌^◌, Bool, true, false, List, [], ◌∷◌, map, Option, Some, None, option_and_then, refl, sym, ap, subst, ◌∙◌}
 use Rattle.std.specs.Prelude.{◌||◌, ◌&&◌, T, ⊤, codes, if◌then◌else◌, nat_lt, Ok, Err}
 use Rattle.std.specs.BTreeMap.{insert_entry}
-use Rattle.std.specs.FinMap.Entries.{below_all, is_sorted, is_sorted-put}
+use Rattle.std.specs.FinMap.Entries.{is_sorted, is_sorted-put}
 use Rattle.std.specs.List.{AllByRecursion, list_all, list_any}
 use Rattle.std.specs.List.Sorted.{IsStrictlySortedBy}
-use Rattle.std.specs.Ordering.{is_lt, match_ordering}
+use Rattle.std.specs.Ordering.{match_ordering}
 use Rattle.std.specs.Str.{bytes_eq}
 use Rattle.std.specs.Str.Parse.{digits_value}
 use Rattle.std.specs.declared.cmp.Ordering.{Ordering}
@@ -17,6 +17,7 @@ use Rattle.serde_json.specs.Find.{as_str}
 use Rattle.zot_digest.specs.ByteMap.{byte_cmp}
 use Rattle.zot_digest.specs.Digest.{IsDigest, digest_named}
 use Rattle.zot_digest.proofs.DigestLemmas.{named_is_text}
+use Rattle.zot_maps.proofs.Entries.{keys_ascend}
 use Rattle.zot_maps.proofs.Maps.{byte_order}
 use Rattle.zot_media.specs.Descriptors.{descriptor_of, digest_in, external_in, size_in}
 use Rattle.zot_media.specs.Fields.{document, each, text_of}
@@ -34,7 +35,7 @@ use Rattle.zot_layout.specs.declared.moment.Moment.{Moment}
 use Rattle.zot_layout.specs.declared.moment.Moment.TheVariants.{At, Missing, Wrong}
 use Rattle.zot_layout.specs.declared.parts.ManifestPart.{ManifestPart}
 use Rattle.zot_layout.specs.declared.parts.TagPart.{TagPart}
-use Rattle.zot_layout.proofs.BackLemmas.{all_mapped, map_twice}
+use Rattle.zot_layout.proofs.BackLemmas.{all_mapped, all_of, left_or, map_twice, right_or}
 use Rattle.zot_layout.proofs.SortLemmas.{same_put}
 use Rattle.zot_layout.proofs.TagLemmas.{tag_from_test}
 
@@ -139,40 +140,10 @@ real_all value = by _ where
 
 -- ---- entries in order
 
-or_left : (a b : Bool) → a ≡ true → (a || b) ≡ true
-or_left true b h = refl
-or_left false b h = absurd (true≢false (sym h))
-
-or_right : (a b : Bool) → b ≡ true → (a || b) ≡ true
-or_right true b h = refl
-or_right false b h = h
-
 itself : (k : List ℕ) → bytes_eq k k ≡ true
 itself k = (bytes_eq-Decides k k).1 refl
 
-first : (a b : Bool) → T (a && b) → T a
-first true b h = tt
-first false b h = absurd h
-
-second : (a b : Bool) → T (a && b) → T b
-second true b h = h
-second false b h = absurd h
-
-is_less : (o : Ordering) → T (is_lt o) → o ≡ Less
-is_less Less h = refl
-is_less Equal h = absurd h
-is_less Greater h = absurd h
-
 module _ {X : Type 0} where
-  above : (low : List ℕ) (es : List (List ℕ × X)) → T (below_all byte_cmp low es) → AllByRecursion (λ y. byte_cmp low y ≡ Less) (map (λ e. e.0) es)
-  above low [] h = tt
-  above low (e ∷ es) h = (is_less (byte_cmp low e.0) (first (is_lt (byte_cmp low e.0)) (below_all byte_cmp low es) h), above low es (second (is_lt (byte_cmp low e.0)) (below_all byte_cmp low es) h))
-
-  ordered : (es : List (List ℕ × X)) → T (is_sorted byte_cmp es) → IsStrictlySortedBy byte_cmp (map (λ e. e.0) es)
-  unfolding IsStrictlySortedBy
-  ordered [] h = tt
-  ordered (e ∷ es) h = (above e.0 es (first (below_all byte_cmp e.0 es) (is_sorted byte_cmp es) h), ordered es (second (below_all byte_cmp e.0 es) (is_sorted byte_cmp es) h))
-
   sorted_put : (es : List (List ℕ × X)) (k : List ℕ) (v : X) → T (is_sorted byte_cmp es) → T (is_sorted byte_cmp (insert_entry byte_cmp es k v))
   sorted_put es k v h = subst (λ fs. T (is_sorted byte_cmp fs)) (sym (same_put es k v)) (is_sorted-put byte_cmp byte_order.total k v es h)
 
@@ -194,22 +165,22 @@ module _ {X : Type 0} where
   has digest es = list_any (λ e. bytes_eq digest e.0) es
 
   here_put : (k : List ℕ) (v : X) (es : List (List ℕ × X)) → has k (insert_entry byte_cmp es k v) ≡ true
-  here_put k v [] = or_left (bytes_eq k k) false (itself k)
+  here_put k v [] = left_or (bytes_eq k k) false (itself k)
   here_put k v (e ∷ es) = by (here_put k v es) (byte_cmp k e.0) refl where
     by : has k (insert_entry byte_cmp es k v) ≡ true → (o : Ordering) → byte_cmp k e.0 ≡ o → has k (match_ordering o ((k, v) ∷ e ∷ es) ((e.0, v) ∷ es) (e ∷ insert_entry byte_cmp es k v)) ≡ true
-    by more Less tied = or_left (bytes_eq k k) (has k (e ∷ es)) (itself k)
-    by more Equal tied = or_left (bytes_eq k e.0) (has k es) ((bytes_eq-Decides k e.0).1 (byte_order.antisymmetric k e.0 tied))
-    by more Greater tied = or_right (bytes_eq k e.0) (has k (insert_entry byte_cmp es k v)) more
+    by more Less tied = left_or (bytes_eq k k) (has k (e ∷ es)) (itself k)
+    by more Equal tied = left_or (bytes_eq k e.0) (has k es) ((bytes_eq-Decides k e.0).1 (byte_order.antisymmetric k e.0 tied))
+    by more Greater tied = right_or (bytes_eq k e.0) (has k (insert_entry byte_cmp es k v)) more
 
   kept_put : (digest k : List ℕ) (v : X) (es : List (List ℕ × X)) → has digest es ≡ true → has digest (insert_entry byte_cmp es k v) ≡ true
   kept_put digest k v [] h = absurd (true≢false (sym h))
   kept_put digest k v (e ∷ es) h = by (kept_put digest k v es) (byte_cmp k e.0) (bytes_eq digest e.0) refl where
     by : (has digest es ≡ true → has digest (insert_entry byte_cmp es k v) ≡ true) → (o : Ordering) (b : Bool) → bytes_eq digest e.0 ≡ b
         → has digest (match_ordering o ((k, v) ∷ e ∷ es) ((e.0, v) ∷ es) (e ∷ insert_entry byte_cmp es k v)) ≡ true
-    by more Less b is = or_right (bytes_eq digest k) (has digest (e ∷ es)) h
+    by more Less b is = right_or (bytes_eq digest k) (has digest (e ∷ es)) h
     by more Equal b is = h
-    by more Greater true is = or_left (bytes_eq digest e.0) (has digest (insert_entry byte_cmp es k v)) is
-    by more Greater false is = or_right (bytes_eq digest e.0) (has digest (insert_entry byte_cmp es k v)) (more (sym (ap (λ b. b || has digest es) is) ∙ h))
+    by more Greater true is = left_or (bytes_eq digest e.0) (has digest (insert_entry byte_cmp es k v)) is
+    by more Greater false is = right_or (bytes_eq digest e.0) (has digest (insert_entry byte_cmp es k v)) (more (sym (ap (λ b. b || has digest es) is) ∙ h))
 
 -- ---- the state
 
@@ -270,10 +241,6 @@ module _ (moment : ℕ) (small : IsSmall moment) where
         more (with_manifest moment ms l (Some media)) same (insert_entry byte_cmp es tag part)
         (sorted_put es tag part all.0, all_put IsTag (IsUnder manifests) es tag part real (small_or l.pushed h.0.pushed, there) all.1)
 
-  all_of : {A : Type 0} (P Q : A → Type 0) → ((x : A) → P x → Q x) → (xs : List A) → AllByRecursion P xs → AllByRecursion Q xs
-  all_of P Q f [] h = tt
-  all_of P Q f (x ∷ xs) h = (f x h.0, all_of P Q f xs h.1)
-
   state_ordered : (listed : List Listed) → AllByRecursion IsListed listed → IsIndex (state_of moment listed)
   state_ordered listed h =
       let ms : List (List ℕ × ManifestPart) = with_manifests moment [] listed in
@@ -285,8 +252,8 @@ module _ (moment : ℕ) (small : IsSmall moment) where
         tags = all_mapped (IsTagOf (map manifest_of ms)) tag_of ts
             (all_of (λ e. IsTag e.0 × IsUnder ms e.1) (λ e. IsTagOf (map manifest_of ms) (tag_of e))
             (λ e real. record { named = real.0; pushed = real.1.0; listed = any_manifest e.1.digest ms ∙ real.1.1 }) ts other.1);
-        digests_ascend = subst (IsStrictlySortedBy byte_cmp) (sym (map_twice manifest_of (λ manifest. manifest.digest) (λ e. e.0) (λ e. refl) ms)) (ordered ms one.0);
-        tags_ascend = subst (IsStrictlySortedBy byte_cmp) (sym (map_twice tag_of (λ tag. tag.tag) (λ e. e.0) (λ e. refl) ts)) (ordered ts other.0);
+        digests_ascend = subst (IsStrictlySortedBy byte_cmp) (sym (map_twice manifest_of (λ manifest. manifest.digest) (λ e. e.0) (λ e. refl) ms)) (keys_ascend byte_cmp ms one.0);
+        tags_ascend = subst (IsStrictlySortedBy byte_cmp) (sym (map_twice tag_of (λ tag. tag.tag) (λ e. e.0) (λ e. refl) ts)) (keys_ascend byte_cmp ts other.0);
       }
 
 -- what is read of bytes is the state of an index

@@ -2,57 +2,21 @@
 use Rattle.std.proofs.Common.{◌≡◌, ℕ, Bool, true, false, cond, List, [], ◌∷◌, map, Option, Some, None, refl, sym, ap, subst, ◌∙◌}
 use Rattle.std.specs.Prelude.{◌||◌, ◌&&◌, T}
 use Rattle.std.specs.BTreeMap.{insert_entry}
-use Rattle.std.specs.FinMap.Entries.{below_all, by_order, find, find-put, is_sorted, is_sorted-put, put, same_entries}
-use Rattle.std.specs.List.{AllByRecursion, list_any}
-use Rattle.std.specs.List.Sorted.{IsStrictlySortedBy}
-use Rattle.std.specs.Ordering.{eq_by_cmp, is_eq, is_lt, match_ordering}
+use Rattle.std.specs.FinMap.Entries.{by_order, find, find-put, is_sorted, is_sorted-put, put, same_entries}
+use Rattle.std.specs.List.{list_any}
+use Rattle.std.specs.Ordering.{eq_by_cmp, match_ordering}
 use Rattle.std.specs.declared.cmp.Ordering.{Ordering}
 use Rattle.std.specs.declared.cmp.Ordering.TheVariants.{Less, Equal, Greater}
 use Rattle.std.proofs.lemmas.Bool.{true≢false}
 use Rattle.zot_digest.specs.ByteMap.{byte_cmp}
-use Rattle.zot_maps.proofs.Maps.{byte_order, same_key, tied_keys}
+use Rattle.zot_maps.proofs.Entries.{AllFound}
+use Rattle.zot_maps.proofs.Maps.{byte_order, tied_keys}
 
 either_false : (a b : Bool) → (a || b) ≡ false → (a ≡ false) × (b ≡ false)
 either_false true b h = absurd (true≢false h)
 either_false false b h = (refl, h)
 
-both : (a b : Bool) → T a → T b → T (a && b)
-both true b x y = y
-both false b x y = absurd x
-
-apart : (low key : List ℕ) → byte_cmp low key ≡ Less → eq_by_cmp byte_cmp key low ≡ false
-apart low key less = split (eq_by_cmp byte_cmp key low) refl where
-  split : (b : Bool) → eq_by_cmp byte_cmp key low ≡ b → b ≡ false
-  split false is = refl
-  split true is =
-      absurd (true≢false (sym (same_key byte_order low) ∙ ap (λ k. is_eq (byte_cmp low k)) (sym (tied_keys byte_order key low is)) ∙ ap is_eq less))
-
 module _ {X : Type 0} where
-  -- ---- a list in order
-
-  below : (low : List ℕ) (es : List (List ℕ × X)) → AllByRecursion (λ y. byte_cmp low y ≡ Less) (map (λ e. e.0) es) → T (below_all byte_cmp low es)
-  below low [] h = tt
-  below low (e ∷ es) h = both (is_lt (byte_cmp low e.0)) (below_all byte_cmp low es) (rw h.0 tt) (below low es h.1)
-
-  pub in_order : (es : List (List ℕ × X)) → IsStrictlySortedBy byte_cmp (map (λ e. e.0) es) → T (is_sorted byte_cmp es)
-  unfolding IsStrictlySortedBy
-  in_order [] h = tt
-  in_order (e ∷ es) h = both (below_all byte_cmp e.0 es) (is_sorted byte_cmp es) (below e.0 es h.0) (in_order es h.1)
-
-  -- each entry is found under its key
-  abbrev pub AllFound : List (List ℕ × X) → List (List ℕ × X) → Type 0
-  AllFound all es = AllByRecursion (λ e. find byte_cmp e.0 all ≡ Some e.1) es
-
-  found_later : (e : List ℕ × X) (all es : List (List ℕ × X)) → AllByRecursion (λ y. byte_cmp e.0 y ≡ Less) (map (λ x. x.0) es) → AllFound all es → AllFound (e ∷ all) es
-  found_later e all [] above h = tt
-  found_later e all (x ∷ es) above h =
-      (ap (λ b. cond b (Some e.1) (find byte_cmp x.0 all)) (apart e.0 x.0 above.0) ∙ h.0, found_later e all es above.1 h.1)
-
-  pub all_found : (es : List (List ℕ × X)) → IsStrictlySortedBy byte_cmp (map (λ e. e.0) es) → AllFound es es
-  unfolding IsStrictlySortedBy
-  all_found [] h = tt
-  all_found (e ∷ es) h = (ap (λ b. cond b (Some e.1) (find byte_cmp e.0 es)) (same_key byte_order e.0), found_later e es es h.0 (all_found es h.1))
-
   -- ---- entries put in one after another
 
   abbrev pub inserted : List (List ℕ × X) → List (List ℕ × X) → List (List ℕ × X)
@@ -80,7 +44,7 @@ module _ {X : Type 0} where
       let parts = either_false (eq_by_cmp byte_cmp q x.0) (has_key q xs) h in
       not_put q (insert_entry byte_cmp es x.0 x.1) xs parts.1 ∙ find_inserted q x.0 x.1 es ∙ ap (λ b. cond b (Some x.1) (find byte_cmp q es)) parts.0
 
-  put_in : (q : List ℕ) (es xs target : List (List ℕ × X)) → AllFound target xs → has_key q xs ≡ true → find byte_cmp q (inserted es xs) ≡ find byte_cmp q target
+  put_in : (q : List ℕ) (es xs target : List (List ℕ × X)) → AllFound byte_order target xs → has_key q xs ≡ true → find byte_cmp q (inserted es xs) ≡ find byte_cmp q target
   put_in q es [] target h has = absurd (true≢false (sym has))
   put_in q es (x ∷ xs) target h has = split (has_key q xs) refl (put_in q (insert_entry byte_cmp es x.0 x.1) xs target h.1) where
     here : (b : Bool) → eq_by_cmp byte_cmp q x.0 ≡ b → has_key q xs ≡ false → (b || has_key q xs) ≡ true → find byte_cmp q (inserted es (x ∷ xs)) ≡ find byte_cmp q target
@@ -103,7 +67,7 @@ module _ {X : Type 0} where
   none_there (Some v) h = absurd (h v refl)
 
   -- entries that agree with a sorted list and have all its keys give that list
-  pub inserted_all : (xs target : List (List ℕ × X)) → T (is_sorted byte_cmp target) → AllFound target xs → ((q : List ℕ) (v : X) → find byte_cmp q target ≡ Some v → has_key q xs ≡ true) → inserted [] xs ≡ target
+  pub inserted_all : (xs target : List (List ℕ × X)) → T (is_sorted byte_cmp target) → AllFound byte_order target xs → ((q : List ℕ) (v : X) → find byte_cmp q target ≡ Some v → has_key q xs ≡ true) → inserted [] xs ≡ target
   inserted_all xs target sorted agree has =
       same_entries byte_cmp byte_order.total byte_order.antisymmetric (inserted [] xs) target (sorted_inserted [] xs tt) sorted (λ q. split q (has_key q xs) refl) where
         split : (q : List ℕ) (b : Bool) → has_key q xs ≡ b → find byte_cmp q (inserted [] xs) ≡ find byte_cmp q target

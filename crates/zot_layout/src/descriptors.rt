@@ -1,15 +1,17 @@
 //! The descriptors of an index.
-ghost use Rattle.std.specs.Prelude.{◌≡◌, ◌++◌, decimal, IfOk, OnOk, map, string_bytes};
-ghost use Rattle.std.specs.List.{filter, flat_map, list_any};
+ghost use Rattle.std.specs.Prelude.{◌≡◌, ◌++◌, List, decimal, IfOk, OnOk, map, option_copied, string_bytes};
+ghost use Rattle.std.specs.List.{flat_map};
 ghost use Rattle.serde_json.specs.View.{view};
 ghost use Rattle.zot_layout.specs.Text.{descriptor_with, descriptors_of, tagged, tagged_notes, untagged, untagged_notes};
-ghost use Rattle.zot_layout.specs.State.{is_of, written_size};
+ghost use Rattle.zot_layout.specs.Groups.{IsGroup};
+ghost use Rattle.zot_layout.specs.State.{written_size};
+ghost use Rattle.zot_layout.specs.declared.index_tag.IndexTag.{IndexTag as ATag};
 
+use crate::groups::group_tags;
 use crate::index_manifest::IndexManifest;
 use crate::index_tag::IndexTag;
 use serde_json::{Value, json};
 use std::alloc::{AllocError, Global};
-use zot_digest::Digest;
 
 /// The greatest size that is written: the greatest whole number that 63 bits hold.
 const GREATEST_SIZE: u64 = 9_223_372_036_854_775_807;
@@ -22,35 +24,32 @@ pub fn descriptors(
 ) -> Result<Vec<Value>, AllocError>
     ensures { IfOk result (λ descriptors. map view descriptors.items ≡ flat_map (descriptors_of tags.now) manifests.now) }
 {
+    let groups = group_tags(alloc, tags)?;
     let mut descriptors = Vec::new(alloc);
     for manifest in manifests {
-        add_manifest(alloc, &mut descriptors, manifest, tags)?;
+        let group = groups.get(&manifest.digest);
+        add_manifest(alloc, &mut descriptors, manifest, group)?;
     }
     Ok(descriptors)
 }
 
-// Adds the descriptors of a manifest.
+// Adds the descriptors of a manifest, whose tags are grouped.
 fn add_manifest(
     alloc: Global,
     descriptors: &mut Vec<Value>,
     manifest: &IndexManifest,
-    tags: &[IndexTag],
+    group: Option<&Vec<&IndexTag>>,
 ) -> Result<(), AllocError>
-    ensures { OnOk result (map view descriptors.new.items ≡ map view descriptors.old.items ++ descriptors_of tags.now manifest.now) }
+    ensures { OnOk result ((tags : List ATag) → IsGroup tags manifest.now.digest (option_copied group.entry)
+        → map view descriptors.new.items ≡ map view descriptors.old.items ++ descriptors_of tags manifest.now) }
 {
-    if has_tag(&manifest.digest, tags) {
-        add_tagged(alloc, descriptors, manifest, tags)
-    } else {
-        descriptors.push(untagged(alloc, manifest)?)?;
-        Ok(())
+    match group {
+        Some(group) => add_tagged(alloc, descriptors, manifest, group.as_slice()),
+        None => {
+            descriptors.push(untagged(alloc, manifest)?)?;
+            Ok(())
+        }
     }
-}
-
-// Whether one of the tags is the digest's.
-fn has_tag(digest: &Digest, tags: &[IndexTag]) -> bool
-    ensures { result ≡ list_any (is_of digest.now) tags.now }
-{
-    tags.iter().any(|tag| tag.digest == *digest)
 }
 
 // Adds a descriptor for each of a manifest's tags.
@@ -58,15 +57,13 @@ fn add_tagged(
     alloc: Global,
     descriptors: &mut Vec<Value>,
     manifest: &IndexManifest,
-    tags: &[IndexTag],
+    tags: &[&IndexTag],
 ) -> Result<(), AllocError>
     ensures { OnOk result (map view descriptors.new.items
-        ≡ map view descriptors.old.items ++ map (tagged manifest.now) (filter (is_of manifest.now.digest) tags.now)) }
+        ≡ map view descriptors.old.items ++ map (λ tag. tagged manifest.now tag.now) tags.now) }
 {
     for tag in tags {
-        if tag.digest == manifest.digest {
-            descriptors.push(tagged(alloc, manifest, tag)?)?;
-        }
+        descriptors.push(tagged(alloc, manifest, tag)?)?;
     }
     Ok(())
 }

@@ -5,6 +5,7 @@
 #![tactic(auto)]
 
 mod descriptors;
+mod groups;
 mod index_manifest;
 mod index_state;
 mod index_tag;

@@ -1,26 +1,27 @@
 -- Tags in a tree, and pages of them.
-use Rattle.std.proofs.Common.{◌≡◌, ℕ, zero, suc, ◌-◌, ◌<◌, ◌≤◌, Bool, true, false, cond, List, [], ◌∷◌, ◌++◌, length, map, take, drop, Option, Some, None, refl, sym, ap, subst, ◌∙◌, arith, length-drop, if◌then◌else◌}
-use Rattle.std.specs.Prelude.{◌&&◌, ◌^◌, IsSome, T, is_some, nat_lt, slice_get, unwrap_or}
+use Rattle.std.proofs.Common.{◌≡◌, ℕ, zero, suc, ◌-◌, ◌<◌, Bool, true, false, cond, List, [], ◌∷◌, ◌++◌, length, map, take, drop, Option, Some, None, refl, sym, ap, subst, ◌∙◌, arith, length-drop, if◌then◌else◌}
+use Rattle.std.specs.Prelude.{◌&&◌, ◌^◌, IsSome, is_some, nat_lt, slice_get, unwrap_or}
 use Rattle.std.specs.BTreeMap.{BTreeMap, is_at}
 use Rattle.std.specs.BTreeMap.Range.{IsEntryInRange, entries_between, range_contains}
 use Rattle.std.specs.FinMap as finite
-use Rattle.std.specs.FinMap.{entries-from_sorted, get-empty, get-from_entries, get-from_sorted, get-insert, get-remove}
-use Rattle.std.specs.FinMap.Entries.{below_all, is_sorted}
+use Rattle.std.specs.FinMap.{get-empty, get-insert, get-remove}
 use Rattle.std.specs.Cmp.{Equal-is}
 use Rattle.std.specs.Cmp.Lexicographic.{nat_list_cmp_total}
 use Rattle.std.specs.List.{All, AllByRecursion, filter}
 use Rattle.std.specs.List.Sorted.{IsStrictlySortedBy}
-use Rattle.std.specs.Map.{KeepsOthers, keys_of, lookup}
+use Rattle.std.specs.Map.{keys_of, lookup}
 use Rattle.std.specs.Ordering.{eq_by_cmp, is_lt}
-use Rattle.std.specs.declared.cmp.Ordering.TheVariants.{Equal, Less}
+use Rattle.std.specs.declared.cmp.Ordering.TheVariants.{Equal}
 use Rattle.std.specs.declared.ops.Bound.{Bound}
 use Rattle.std.specs.declared.ops.Bound.TheVariants.{Unbounded}
 use Rattle.std.specs.Map.Iter.{TakesFirst}
 use Rattle.std.proofs.lemmas.Bool.Decides.{nat_tests}
+use Rattle.std.proofs.lemmas.List.{take_all}
 use Rattle.std.proofs.lemmas.List.Elements.{recursion_from_All}
 use Rattle.zot_digest.specs.ByteMap.{ByteMap, byte_cmp, map_of}
 use Rattle.zot_manifests.specs.Tags.{AreTags, after}
-use Rattle.zot_maps.proofs.Maps.{byte_order, entries-insert, found_at, get-entries, same_map}
+use Rattle.zot_maps.proofs.Entries.{Writes, entries_of_map, map_written}
+use Rattle.zot_maps.proofs.Maps.{byte_order, found_at, get-entries}
 use Rattle.zot_model.specs.Manifests.{pulled_at, with_pull}
 use Rattle.zot_model.specs.Pages.{comes_after, last_of, page, page_of, tags_after}
 use Rattle.zot_model.specs.State.{StoredTag}
@@ -55,56 +56,20 @@ tags_remove old new tag is are q has =
 
 -- ---- pulls
 
--- a tree with an entry written under a text that it has
-abbrev pub Writes : List (List ℕ × StoredTag) → List (List ℕ × StoredTag) → List ℕ → StoredTag → Type 0
-Writes es fs name written =
-    IsSome (lookup (is_at (byte_cmp name)) es)
-    → ((q : List ℕ) → lookup (is_at (byte_cmp q)) fs ≡ cond (is_at (byte_cmp name) q) (Some written) (lookup (is_at (byte_cmp q)) es))
-    × (lookup (is_at (byte_cmp name)) fs ≡ Some written)
-    × ((q : List ℕ) → is_at (byte_cmp name) q ≡ false → lookup (is_at (byte_cmp q)) fs ≡ lookup (is_at (byte_cmp q)) es)
-    × KeepsOthers (eq_by_cmp byte_cmp) (is_at (byte_cmp name)) es fs
-
 pub pulled_there : (es fs : List (List ℕ × StoredTag)) (tags : ByteMap StoredTag) (tag : List ℕ) (found written : StoredTag) (moment : ℕ) → map_of es ≡ tags → Some found ≡ lookup (is_at (byte_cmp tag)) es
-    → Writes es fs tag written → written ≡ pulled_at moment found → map_of fs ≡ with_pull moment tags tag (finite.get tags tag)
+    → Writes byte_order es fs tag written → written ≡ pulled_at moment found → map_of fs ≡ with_pull moment tags tag (finite.get tags tag)
 pulled_there es fs tags tag found written moment are has writes is =
-    entries-insert byte_order es fs tag written (writes (subst (λ o. IsSome o) has refl)).0
-    ∙ ap (λ (m : ByteMap StoredTag). finite.insert m tag written) are
+    map_written byte_order es fs tags tag found written are has writes
     ∙ ap (finite.insert tags tag) is
     ∙ ap (with_pull moment tags tag) (sym (found_at byte_order es tags tag (Some found) are has))
 
 pub pulled_none : (es : List (List ℕ × StoredTag)) (tags : ByteMap StoredTag) (tag : List ℕ) (moment : ℕ) → map_of es ≡ tags → None ≡ lookup (is_at (byte_cmp tag)) es → tags ≡ with_pull moment tags tag (finite.get tags tag)
 pulled_none es tags tag moment are has = ap (with_pull moment tags tag) (sym (found_at byte_order es tags tag None are has))
 
-pub tags_pulled : (es fs : List (List ℕ × StoredTag)) (tag : List ℕ) (found written : StoredTag) → Some found ≡ lookup (is_at (byte_cmp tag)) es → Writes es fs tag written → AreTags (map_of es) → AreTags (map_of fs)
+pub tags_pulled : (es fs : List (List ℕ × StoredTag)) (tag : List ℕ) (found written : StoredTag) → Some found ≡ lookup (is_at (byte_cmp tag)) es → Writes byte_order es fs tag written → AreTags (map_of es) → AreTags (map_of fs)
 tags_pulled es fs tag found written has writes are =
-    tags_insert (map_of es) (map_of fs) tag written (entries-insert byte_order es fs tag written (writes (subst (λ o. IsSome o) has refl)).0) are
+    tags_insert (map_of es) (map_of fs) tag written (map_written byte_order es fs (map_of es) tag found written refl has writes) are
     (are tag (subst (λ o. IsSome o) (sym (found_at byte_order es (map_of es) tag (Some found) refl has)) refl))
-
--- ---- the entries of a tree
-
-both : (a b : Bool) → a ≡ true → T b → T (a && b)
-both true b h k = k
-both false b h k = cc h
-
-below : {X : Type 0} (key : List ℕ) (es : List (List ℕ × X)) → AllByRecursion (λ y. byte_cmp key y ≡ Less) (keys_of es) → T (below_all byte_cmp key es)
-below key [] h = tt
-below key (e ∷ es) h = both (is_lt (byte_cmp key e.0)) (below_all byte_cmp key es) (ap is_lt h.0) (below key es h.1)
-
-tests : (a b : Bool) → T a → T b → T (a && b)
-tests true b h k = k
-tests false b h k = absurd h
-
-sorted_entries : {X : Type 0} (es : List (List ℕ × X)) → IsStrictlySortedBy byte_cmp (keys_of es) → T (is_sorted byte_cmp es)
-unfolding IsStrictlySortedBy
-sorted_entries [] h = tt
-sorted_entries (e ∷ es) h = tests (below_all byte_cmp e.0 es) (is_sorted byte_cmp es) (below e.0 es h.0) (sorted_entries es h.1)
-
--- the entries of the map that a tree's entries make are these
-pub entries_of_map : {X : Type 0} (es : List (List ℕ × X)) → IsStrictlySortedBy byte_cmp (keys_of es) → finite.entries (map_of es) ≡ es
-entries_of_map es h =
-    let sorted = sorted_entries es h in
-    ap finite.entries (same_map byte_order (map_of es) (finite.from_sorted es) (λ q. get-from_entries nat_list_cmp_total es q ∙ sym (get-from_sorted byte_cmp es q sorted)))
-    ∙ entries-from_sorted byte_cmp es sorted
 
 -- ---- pages
 
@@ -129,7 +94,7 @@ filtered_keys last (e ∷ es) =
 pub range_keys : (es rest : List (List ℕ × StoredTag)) (tags : ByteMap StoredTag) (last : Option (List ℕ)) → IsStrictlySortedBy byte_cmp (keys_of es) → map_of es ≡ tags → rest ≡ entries_between byte_cmp (after last) Unbounded es
     → keys_of rest ≡ tags_after tags last
 range_keys es rest tags last sorted are is =
-    ap keys_of is ∙ filtered_keys last es ∙ ap (λ (l : List (List ℕ × StoredTag)). filter (comes_after last) (map (λ e. e.0) l)) (sym (entries_of_map es sorted)) ∙ ap (λ m. tags_after m last) are
+    ap keys_of is ∙ filtered_keys last es ∙ ap (λ (l : List (List ℕ × StoredTag)). filter (comes_after last) (map (λ e. e.0) l)) (sym (entries_of_map byte_order es sorted)) ∙ ap (λ m. tags_after m last) are
 
 -- the last of a list, by its place
 pub last_place : (tags : List (List ℕ)) → slice_get tags (length tags - 1) ≡ last_of tags
@@ -163,12 +128,6 @@ gives_more shows rest next (Some x) h = grind (arith, nat_tests, ap (λ (l : Lis
 length_keys : (es : List (List ℕ × StoredTag)) → length (keys_of es) ≡ length es
 length_keys [] = refl
 length_keys (e ∷ es) = ap suc (length_keys es)
-
-take_all : (n : ℕ) (tags : List (List ℕ)) → length tags ≤ n → take n tags ≡ tags
-take_all zero [] h = refl
-take_all (suc n) [] h = refl
-take_all zero (tag ∷ tags) h = absurd (omega (arith, h))
-take_all (suc n) (tag ∷ tags) h = ap (λ l. tag ∷ l) (take_all n tags (omega (arith, h)))
 
 -- the tags of the page
 pub page_tags : (n : Option ℕ) (tags : List (List ℕ)) → length tags < 2 ^ 63 → take (unwrap_or n 18446744073709551615) tags ≡ (page_of n tags).tags

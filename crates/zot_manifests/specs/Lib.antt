@@ -3,4 +3,3 @@ pub mod Codes
 pub mod Check
 pub mod Index
 pub mod Tags
-pub mod Sets

@@ -1,102 +1,102 @@
-//! Which manifests refer to a digest.
-ghost use Rattle.std.specs.Prelude.{◌≡◌, ◌≢◌, ℕ, List, true, OnOk, option_copied};
-ghost use Rattle.std.specs.BTreeMap.{get};
+//! Values that are listed under digests.
+ghost use Rattle.std.specs.Prelude.{◌≡◌, None, cond, false, true, OnErr, OnOk, option_copied};
+ghost use Rattle.std.specs.BTreeMap.{get, is_at};
+ghost use Rattle.std.specs.BTreeSet.{contains};
+ghost use Rattle.std.specs.Str.{bytes_eq};
 ghost use Rattle.zot_digest.specs.ByteMap.{byte_cmp};
-ghost use Rattle.zot_manifests.specs.Index.{KeepsListed, lists};
-ghost use Rattle.zot_media.specs.References.{has_digest, refers};
+ghost use Rattle.zot_manifests.specs.Index.{Adds, Empties, KeepsJust, ListsNone, Removes, has};
 
-use crate::sets::{list, unlist};
 use std::alloc::{AllocError, Global};
 use std::collections::{BTreeMap, BTreeSet};
 use zot_digest::Digest;
-use zot_media::{Descriptor, Reading};
 
-/// Under each digest, the digests of the manifests that may refer to it. Those that do are among them.
+/// Under each digest, the values that are listed there.
 #[derive(Drop)]
-pub struct Index {
-    sets: BTreeMap<Digest, BTreeSet<Digest>>,
+pub struct Index<K: Ord> {
+    sets: BTreeMap<Digest, BTreeSet<K>>,
 }
 
-impl Index {
-    /// No digests. Takes no memory.
-    pub fn new(alloc: Global) -> Self {
+impl<K: Ord + Drop> Index<K> {
+    /// Nothing is listed. Takes no memory.
+    pub fn new(alloc: Global) -> Self
+        ensures { ListsNone K.cmp result.sets }
+    {
         Index {
             sets: BTreeMap::new(alloc),
         }
     }
 
-    /// The manifests that may refer to a digest.
-    pub fn get(&self, referred: &Digest) -> Option<&BTreeSet<Digest>>
-        ensures { option_copied result ≡ get byte_cmp self.now.sets referred.now }
+    /// What is listed under a digest.
+    pub fn get(&self, digest: &Digest) -> Option<&BTreeSet<K>>
+        ensures { option_copied result ≡ get byte_cmp self.now.sets digest.now }
     {
-        self.sets.get(referred)
+        self.sets.get(digest)
     }
 
-    /// Lists a manifest under each digest that it refers to. After an `Err` it may be listed under some of them.
-    #[tactic(auto, unfolding(zot_media::specs::References::refers))]
-    pub fn add(
-        &mut self,
-        alloc: Global,
-        digest: &Digest,
-        reading: &Reading,
-    ) -> Result<(), AllocError>
-        ensures keeps { KeepsListed self.old.sets self.new.sets }
-        ensures ok { OnOk result ((referred : List ℕ) → refers reading.now referred ≡ true → lists self.new.sets referred digest.now ≡ true) }
+    /// Lists a value under a digest. After an `Err` the same is listed as before.
+    pub fn list(&mut self, alloc: Global, digest: Digest, value: K) -> Result<(), AllocError>
+        ensures ok { OnOk result (Adds K.cmp (bytes_eq digest) value self.old.sets self.new.sets) }
+        ensures err { OnErr result (KeepsJust K.cmp self.old.sets self.new.sets) }
     {
-        self.add_each(alloc, digest, reading.references.as_slice())?;
-        self.add_each(alloc, digest, reading.children.as_slice())
-    }
-
-    // The same of descriptors.
-    fn add_each(
-        &mut self,
-        alloc: Global,
-        digest: &Digest,
-        descriptors: &[Descriptor],
-    ) -> Result<(), AllocError>
-        ensures keeps { KeepsListed self.old.sets self.new.sets }
-        ensures ok { OnOk result ((referred : List ℕ) → has_digest referred descriptors.now ≡ true → lists self.new.sets referred digest.now ≡ true) }
-    {
-        for descriptor in descriptors {
-            self.list(alloc, descriptor.digest, *digest)?;
-        }
-        Ok(())
-    }
-
-    /// Lists a manifest under a digest. After an `Err` what was listed is listed still.
-    pub fn list(
-        &mut self,
-        alloc: Global,
-        referred: Digest,
-        digest: Digest,
-    ) -> Result<(), AllocError>
-        ensures keeps { KeepsListed self.old.sets self.new.sets }
-        ensures ok { OnOk result (lists self.new.sets referred digest ≡ true) }
-    {
-        list(&mut self.sets, alloc, referred, digest)
-    }
-
-    /// Lists a manifest no more under the digests that it refers to. Takes no memory.
-    pub fn remove(&mut self, digest: &Digest, reading: &Reading)
-        ensures { (referred other : List ℕ) → other ≢ digest.now → lists self.old.sets referred other ≡ true → lists self.new.sets referred other ≡ true }
-    {
-        self.remove_each(digest, reading.references.as_slice());
-        self.remove_each(digest, reading.children.as_slice());
-    }
-
-    // The same of descriptors.
-    fn remove_each(&mut self, digest: &Digest, descriptors: &[Descriptor])
-        ensures { (referred other : List ℕ) → other ≢ digest.now → lists self.old.sets referred other ≡ true → lists self.new.sets referred other ≡ true }
-    {
-        for descriptor in descriptors {
-            self.unlist(&descriptor.digest, digest);
+        match self.sets.get_mut(&digest) {
+            Some(set) => add_to(set, value),
+            None => self.list_first(alloc, digest, value),
         }
     }
 
-    /// Lists a manifest no more under a digest. Takes no memory.
-    pub fn unlist(&mut self, referred: &Digest, digest: &Digest)
-        ensures { (asked other : List ℕ) → other ≢ digest.now → lists self.old.sets asked other ≡ true → lists self.new.sets asked other ≡ true }
+    // The same under a digest that nothing is listed under.
+    fn list_first(&mut self, alloc: Global, digest: Digest, value: K) -> Result<(), AllocError>
+        requires { get byte_cmp self.now.sets digest ≡ None }
+        ensures ok { OnOk result (Adds K.cmp (bytes_eq digest) value self.old.sets self.new.sets) }
+        ensures err { OnErr result (KeepsJust K.cmp self.old.sets self.new.sets) }
     {
-        unlist(&mut self.sets, referred, digest);
+        let mut set = BTreeSet::new(alloc);
+        add_to(&mut set, value)?;
+        match self.sets.insert(digest, set) {
+            Ok(_) => Ok(()),
+            Err(_) => Err(AllocError),
+        }
+    }
+
+    /// Lists a value no more under a digest. Takes no memory.
+    pub fn unlist(&mut self, digest: &Digest, value: &K)
+        ensures { Removes K.cmp (bytes_eq digest.now) value.now self.old.sets self.new.sets }
+    {
+        if self.take_from(digest, value) {
+            let _ = self.sets.remove(digest);
+        }
+    }
+
+    // The same, and whether a set without a value is left there.
+    fn take_from(&mut self, digest: &Digest, value: &K) -> bool
+        ensures removed { Removes K.cmp (bytes_eq digest.now) value.now self.old.sets self.new.sets }
+        ensures none { result ≡ true → (other : K) → has K.cmp self.new.sets digest.now other ≡ false }
+    {
+        match self.sets.get_mut(digest) {
+            Some(set) => {
+                set.remove(value);
+                set.is_empty()
+            }
+            None => false,
+        }
+    }
+
+    /// Removes what is listed under a digest, and answers it. Takes no memory.
+    pub fn take(&mut self, digest: &Digest) -> Option<BTreeSet<K>>
+        ensures was { result ≡ get byte_cmp self.old.sets digest.now }
+        ensures taken { Empties K.cmp digest.now self.old.sets self.new.sets }
+    {
+        self.sets.remove(digest)
+    }
+}
+
+// Adds a value to a set. After an `Err` the set is as it was.
+fn add_to<K: Ord + Drop>(set: &mut BTreeSet<K>, value: K) -> Result<(), AllocError>
+    ensures ok { OnOk result ((other : K) → contains K.cmp set.new other ≡ cond (is_at (K.cmp value) other) true (contains K.cmp set.old other)) }
+    ensures err { OnErr result (set.new ≡ set.old) }
+{
+    match set.insert(value) {
+        Ok(_) => Ok(()),
+        Err(_) => Err(AllocError),
     }
 }

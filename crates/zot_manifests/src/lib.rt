@@ -13,7 +13,7 @@ mod kept;
 mod manifest_map;
 mod manifests;
 mod page;
-mod sets;
+mod references;
 mod tag_entry;
 mod tag_map;
 mod tags;

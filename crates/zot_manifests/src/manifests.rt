@@ -23,7 +23,7 @@ use zot_names::Tag;
 pub struct Manifests {
     manifests: ManifestMap,
     tags: Tags,
-    index: Index,
+    index: Index<Digest>,
 }
 
 impl Model for Manifests {
@@ -57,7 +57,7 @@ impl Manifests {
         ensures empty { result ≡ true → self.now ≡ empty_table }
         ensures other { result ≡ false → self.now ≢ empty_table }
     {
-        self.manifests.is_empty() && self.tags.is_empty()
+        self.manifests.is_empty() && self.tags.map().is_empty()
     }
 
     /// Puts a manifest that arrives at the moment, and sets its tag, if it has one, to it. After an `Err`, which comes only where memory runs out, the table is as it was.
@@ -72,7 +72,7 @@ impl Manifests {
             reading,
             size: _,
         } = checked;
-        self.index.add(alloc, &digest, &reading)?;
+        self.index.list_references(alloc, &digest, &reading)?;
         let kept = Kept {
             media,
             arrived: moment,
@@ -108,7 +108,7 @@ impl Manifests {
         let Some(kept) = self.manifests.remove(digest) else {
             return false;
         };
-        self.index.remove(digest, &kept.reading);
+        self.index.unlist_references(digest, &kept.reading);
         self.tags.remove_of(digest);
         true
     }
@@ -127,7 +127,7 @@ impl Manifests {
         ensures { result ≡ found_by self.now reference.now }
     {
         match reference {
-            Reference::Tag(tag) => self.tags.get(tag).map(|entry| entry.digest()),
+            Reference::Tag(tag) => self.tags.map().get(tag).map(|entry| entry.digest()),
             Reference::Digest(digest) => self.manifests.get(digest).map(|_| *digest),
         }
     }
@@ -149,7 +149,7 @@ impl Manifests {
         ensures tags { IfOk result (λ found. found.tags ≡ (page self.now.tags n (option_map (λ text. text.now) last.entry)).tags) }
         ensures next { IfOk result (λ found. found.next ≡ (page self.now.tags n (option_map (λ text. text.now) last.entry)).next) }
     {
-        self.tags.page(alloc, n, last)
+        self.tags.map().page_after(alloc, n, last)
     }
 
     /// Whether some manifest refers to a digest: by its config, any layer or a child. It looks at those alone that are listed under the digest. Takes no memory.

@@ -102,8 +102,8 @@ impl TagMap {
         }
     }
 
-    // Whether a text is a tag of a manifest.
-    fn is_set_to(&self, text: &Words, digest: &Digest) -> bool
+    /// Whether a text is a tag of a manifest.
+    pub fn is_set_to(&self, text: &Words, digest: &Digest) -> bool
         ensures { result ≡ is_tag_of digest.now (finite.get self.now text.now) }
     {
         match self.tree.get(text) {
@@ -123,7 +123,7 @@ impl TagMap {
     }
 
     /// The page of at most n tags after a text, found from the place of that text in the tree. It fails only where memory runs out.
-    pub fn page(
+    pub fn page_after(
         &self,
         alloc: Global,
         n: Option<u64>,

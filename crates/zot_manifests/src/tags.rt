@@ -1,17 +1,15 @@
 //! The tags of a repository, with an index of what they are set to.
-ghost use Rattle.std.specs.Prelude.{◌≡◌, ◌≢◌, ◌↔◌, ℕ, List, IsTrue, IfOk, OnErr, OnOk, false, true, option_copied, option_map};
+ghost use Rattle.std.specs.Prelude.{◌≡◌, OnErr, OnOk, false};
 ghost use Rattle.std.specs.FinMap as finite;
 ghost use Rattle.zot_digest.specs.ByteMap.{byte_cmp};
-ghost use Rattle.zot_manifests.specs.Sets.{has};
-ghost use Rattle.zot_model.specs.Manifests.{with_pull, without_tags_of};
-ghost use Rattle.zot_model.specs.Pages.{page};
+ghost use Rattle.zot_manifests.specs.Index.{Removes};
+ghost use Rattle.zot_manifests.specs.Tags.{is_moved_from};
+ghost use Rattle.zot_model.specs.Manifests.{is_tag_of, with_pull, without_tags_of};
 
-use crate::page::Page;
-use crate::sets::{list, unlist};
+use crate::index::Index;
 use crate::tag_entry::TagEntry;
 use crate::tag_map::TagMap;
 use std::alloc::{AllocError, Global};
-use std::collections::{BTreeMap, BTreeSet};
 use std::marker::Model;
 use zot_digest::{Digest, Words};
 use zot_names::Tag;
@@ -20,7 +18,7 @@ use zot_names::Tag;
 #[derive(Drop)]
 pub struct Tags {
     map: TagMap,
-    listed: BTreeMap<Digest, BTreeSet<Words>>,
+    index: Index<Words>,
 }
 
 impl Model for Tags {
@@ -35,7 +33,7 @@ impl Model for Tags {
 
     ghost view = { λ t. t.map };
 
-    ghost invariant = { λ t. ListsTags t.map t.listed };
+    ghost invariant = { λ t. ListsTags t.map t.index.sets };
 }
 
 impl Tags {
@@ -45,22 +43,15 @@ impl Tags {
     {
         Tags {
             map: TagMap::new(alloc),
-            listed: BTreeMap::new(alloc),
+            index: Index::new(alloc),
         }
     }
 
-    /// Whether there are none.
-    pub fn is_empty(&self) -> bool
-        ensures { IsTrue result ↔ (self.now ≡ finite.empty) }
+    /// The same tags, without the index.
+    pub fn map(&self) -> &TagMap
+        ensures { result.now ≡ self.now }
     {
-        self.map.is_empty()
-    }
-
-    /// What is kept of a tag.
-    pub fn get(&self, tag: &Tag) -> Option<&TagEntry>
-        ensures { option_copied result ≡ finite.get self.now tag.now }
-    {
-        self.map.get(tag)
+        &self.map
     }
 
     /// Sets a tag. After an `Err` the tags are as they were.
@@ -69,8 +60,8 @@ impl Tags {
         ensures err { OnErr result (self.new ≡ self.old) }
     {
         let digest = entry.digest();
-        list(&mut self.listed, alloc, digest, tag.words().copy(alloc)?)?;
-        unlist_other(&self.map, &mut self.listed, &tag, &digest);
+        self.index.list(alloc, digest, tag.words().copy(alloc)?)?;
+        unlist_moved(&self.map, &mut self.index, &tag, &digest);
         self.map.set(tag, entry)
     }
 
@@ -80,7 +71,7 @@ impl Tags {
         ensures removed { self.new ≡ finite.remove self.old tag.now }
         ensures stays { result ≡ false → self.new ≡ self.old }
     {
-        unlist_tag(&self.map, &mut self.listed, tag);
+        unlist_tag(&self.map, &mut self.index, tag);
         self.map.remove(tag)
     }
 
@@ -88,7 +79,7 @@ impl Tags {
     pub fn remove_of(&mut self, digest: &Digest)
         ensures { self.new ≡ without_tags_of self.old digest.now }
     {
-        if let Some(texts) = self.listed.remove(digest) {
+        if let Some(texts) = self.index.take(digest) {
             self.map.remove_each(&texts, digest);
         }
     }
@@ -99,43 +90,22 @@ impl Tags {
     {
         self.map.pull(tag, moment);
     }
-
-    /// The page of at most n tags after a text, found from the place of that text in the tree. It fails only where memory runs out.
-    pub fn page(
-        &self,
-        alloc: Global,
-        n: Option<u64>,
-        last: Option<&str>,
-    ) -> Result<Page, AllocError>
-        ensures tags { IfOk result (λ found. found.tags ≡ (page self.now n (option_map (λ text. text.now) last.entry)).tags) }
-        ensures next { IfOk result (λ found. found.next ≡ (page self.now n (option_map (λ text. text.now) last.entry)).next) }
-    {
-        self.map.page(alloc, n, last)
-    }
 }
 
 // Lists a tag no more under the manifest that it is set to, where that is another one than this.
-fn unlist_other(
-    map: &TagMap,
-    listed: &mut BTreeMap<Digest, BTreeSet<Words>>,
-    tag: &Tag,
-    digest: &Digest,
-)
-    ensures { (asked other : List ℕ) → (other ≡ tag.now → asked ≡ digest.now) → has byte_cmp listed.old asked other ≡ true → has byte_cmp listed.new asked other ≡ true }
+fn unlist_moved(map: &TagMap, index: &mut Index<Words>, tag: &Tag, digest: &Digest)
+    ensures { Removes byte_cmp (is_moved_from digest.now (finite.get map.now tag.now)) tag.now index.old.sets index.new.sets }
 {
-    if let Some(entry) = map.get(tag) {
-        let before = entry.digest();
-        if before != *digest {
-            unlist(listed, &before, tag.words());
-        }
+    if !map.is_set_to(tag.words(), digest) {
+        unlist_tag(map, index, tag);
     }
 }
 
 // Lists a tag no more under the manifest that it is set to.
-fn unlist_tag(map: &TagMap, listed: &mut BTreeMap<Digest, BTreeSet<Words>>, tag: &Tag)
-    ensures { (asked other : List ℕ) → other ≢ tag.now → has byte_cmp listed.old asked other ≡ true → has byte_cmp listed.new asked other ≡ true }
+fn unlist_tag(map: &TagMap, index: &mut Index<Words>, tag: &Tag)
+    ensures { Removes byte_cmp (λ digest. is_tag_of digest (finite.get map.now tag.now)) tag.now index.old.sets index.new.sets }
 {
     if let Some(entry) = map.get(tag) {
-        unlist(listed, &entry.digest(), tag.words());
+        index.unlist(&entry.digest(), tag.words());
     }
 }

@@ -1,16 +1,16 @@
 -- Which manifests stand in a list of referrers, and its text.
-use Rattle.std.specs.Prelude.{◌≡◌, ℕ, true, List, [], ◌∷◌, map, Option, Some, None, codes, unwrap_or, if◌then◌else◌}
-use Rattle.std.specs.BTreeMap.{BTreeMap}
-use Rattle.std.specs.BTreeSet.{BTreeSet}
+use Rattle.std.specs.Prelude.{ℕ, Bool, List, [], ◌∷◌, map, Option, Some, None, codes, unwrap_or, if◌then◌else◌}
 use Rattle.std.specs.FinMap as finite
 use Rattle.serde_json.specs.Data.{Data, Items, array, no_members, number, object, put, string, unsigned}
 use Rattle.zot_digest.specs.ByteMap.{ByteMap}
-use Rattle.zot_manifests.specs.Index.{ListsNamed}
+use Rattle.zot_manifests.specs.Index.{ListsNamed, Sets}
 use Rattle.zot_manifests.specs.declared.kept.Kept.{Kept}
+use Rattle.zot_media.specs.Manifest.{is_text}
 use Rattle.zot_media.specs.Media.{media_text}
 use Rattle.zot_media.specs.References.{subject_digest}
 use Rattle.zot_media.specs.Referrers.{Pushed, Referrer, is_listed, referrer_of}
 use Rattle.zot_media.specs.declared.media.Media.TheVariants.{Index}
+use Rattle.zot_media.specs.declared.reading.Reading.{Reading}
 
 -- a kept manifest, with its digest and how many bytes it has
 abbrev pub pushed_as : List ℕ → ℕ → Kept → Pushed
@@ -33,13 +33,13 @@ found_as sizes subject wanted digest (Some kept) = listed_as subject wanted (pus
 abbrev pub found_in : (List ℕ → Option ℕ) → ByteMap Kept → List ℕ → Option (List ℕ) → List ℕ → List Referrer
 found_in sizes manifests subject wanted digest = found_as sizes subject wanted digest (finite.get manifests digest)
 
--- a kept manifest says something of the one of a digest
-abbrev pub HasSubject : Kept → List ℕ → Type 0
-HasSubject kept subject = subject_digest kept.reading.subject ≡ Some subject
+-- whether a manifest says something of the one of a digest
+abbrev pub says_of : Reading → List ℕ → Bool
+says_of reading subject = is_text subject (subject_digest reading.subject)
 
--- each manifest that has a subject is listed under it. More may be listed: what is found under a digest is looked at
-abbrev pub ListsSubjects : ByteMap Kept → BTreeMap (List ℕ) (BTreeSet (List ℕ)) → Type 0
-ListsSubjects manifests sets = ListsNamed HasSubject manifests sets
+-- each manifest that has a subject is listed under it
+abbrev pub ListsSubjects : ByteMap Kept → Sets (List ℕ) → Type 0
+ListsSubjects manifests sets = ListsNamed (λ kept. says_of kept.reading) manifests sets
 
 -- the index with these descriptors
 unfoldable pub listing_value : Items → Data

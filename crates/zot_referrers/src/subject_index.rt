@@ -1,14 +1,12 @@
 //! Which manifests say something of a digest.
-ghost use Rattle.std.specs.Prelude.{◌≡◌, ◌≢◌, ◌++◌, ℕ, List, Some, true, IfOk, OnOk, map, option_map, string_bytes};
+ghost use Rattle.std.specs.Prelude.{◌≡◌, ◌++◌, IfOk, OnErr, OnOk, map, option_map, string_bytes};
 ghost use Rattle.std.specs.List.{flat_map};
 ghost use Rattle.std.specs.List.Sorted.{IsStrictlySortedBy};
 ghost use Rattle.serde_json.specs.View.{view};
 ghost use Rattle.zot_digest.specs.ByteMap.{byte_cmp};
-ghost use Rattle.zot_manifests.specs.Index.{KeepsListed, lists};
-ghost use Rattle.zot_media.specs.References.{subject_digest};
-ghost use Rattle.zot_media.specs.Manifest.{is_text};
+ghost use Rattle.zot_manifests.specs.Index.{Adds, KeepsJust, ListsNone, Removes};
 ghost use Rattle.zot_media.specs.Referrers.{descriptor_value, is_listed, passes, referrers_among, referrers_text};
-ghost use Rattle.zot_referrers.specs.Listing.{ListsSubjects, all_pushed, found_in, listed_as, pushed_as};
+ghost use Rattle.zot_referrers.specs.Listing.{ListsSubjects, all_pushed, found_in, listed_as, pushed_as, says_of};
 
 use crate::text::{descriptor, listing_text};
 use serde_json::Value;
@@ -21,26 +19,28 @@ use zot_media::Reading;
 /// Under each digest, the digests of the manifests that may say something of it. Those that do are among them.
 #[derive(Drop)]
 pub struct SubjectIndex {
-    index: Index,
+    index: Index<Digest>,
 }
 
 impl SubjectIndex {
     /// No manifests. Takes no memory.
-    pub fn new(alloc: Global) -> Self {
+    pub fn new(alloc: Global) -> Self
+        ensures { ListsNone byte_cmp result.index.sets }
+    {
         SubjectIndex {
             index: Index::new(alloc),
         }
     }
 
-    /// Lists a manifest under its subject, if it has one. It fails only where memory runs out, and then lists what it listed.
+    /// Lists a manifest under its subject, if it has one. It fails only where memory runs out, and then lists the same as before.
     pub fn add(
         &mut self,
         alloc: Global,
         digest: &Digest,
         reading: &Reading,
     ) -> Result<(), AllocError>
-        ensures keeps { KeepsListed self.old.index.sets self.new.index.sets }
-        ensures ok { OnOk result ((subject : List ℕ) → subject_digest reading.now.subject ≡ Some subject → lists self.new.index.sets subject digest.now ≡ true) }
+        ensures ok { OnOk result (Adds byte_cmp (says_of reading.now) digest.now self.old.index.sets self.new.index.sets) }
+        ensures err { OnErr result (KeepsJust byte_cmp self.old.index.sets self.new.index.sets) }
     {
         match reading.subject_digest() {
             Some(subject) => self.index.list(alloc, subject, *digest),
@@ -50,7 +50,7 @@ impl SubjectIndex {
 
     /// Lists a manifest no more. Takes no memory.
     pub fn remove(&mut self, digest: &Digest, reading: &Reading)
-        ensures { (subject other : List ℕ) → other ≢ digest.now → lists self.old.index.sets subject other ≡ true → lists self.new.index.sets subject other ≡ true }
+        ensures { Removes byte_cmp (says_of reading.now) digest.now self.old.index.sets self.new.index.sets }
     {
         if let Some(subject) = reading.subject_digest() {
             self.index.unlist(&subject, digest);
@@ -170,7 +170,7 @@ fn is_listed(reading: &Reading, subject: &Digest, wanted: Option<&str>) -> bool
 
 // Whether a manifest says something of the digest.
 fn says_of(reading: &Reading, digest: &Digest) -> bool
-    ensures { result ≡ is_text digest.now (subject_digest reading.now.subject) }
+    ensures { result ≡ says_of reading.now digest.now }
 {
     match reading.subject_digest() {
         Some(subject) => subject == *digest,

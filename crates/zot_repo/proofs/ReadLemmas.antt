@@ -7,9 +7,10 @@ use Rattle.std.specs.FinMap.{get-empty, get-insert, get-remove}
 use Rattle.std.specs.Ordering.{eq_by_cmp}
 use Rattle.std.proofs.lemmas.Bool.{true≢false}
 use Rattle.zot_digest.specs.ByteMap.{ByteMap, byte_cmp}
-use Rattle.zot_manifests.proofs.TableLemmas.{any_found, get_plain, plain_empty, plain_insert, plain_none}
+use Rattle.zot_manifests.proofs.TableLemmas.{get_plain, plain_empty, plain_insert, plain_none}
 use Rattle.zot_manifests.specs.Table.{Table, empty_table, is_referred as is_kept_referred, plain_manifest, plain_manifests}
 use Rattle.zot_manifests.specs.declared.kept.Kept.{Kept}
+use Rattle.zot_maps.proofs.Entries.{any_found}
 use Rattle.zot_maps.proofs.Maps.{byte_order, get_elsewhere, get_here, insert-same, removed_elsewhere, same_key, tied_keys}
 use Rattle.zot_media.specs.Manifest.{stored_reading}
 use Rattle.zot_media.specs.References.{refers}
@@ -151,14 +152,14 @@ module _ (known : Bool) (blobs : ByteMap Stored) (table : Table) (sessions : Upl
   referred_same digest = same_test (is_referred repo digest) (is_kept_referred table.manifests digest) there back where
     there : is_referred repo digest ≡ true → is_kept_referred table.manifests digest ≡ true
     there h =
-        let found = any_found (λ (entry : List ℕ × StoredManifest). refers (reading_at repo entry.0 entry.1) digest) (plain_manifests table.manifests) h in
+        let found = any_found byte_order (λ (entry : List ℕ × StoredManifest). refers (reading_at repo entry.0 entry.1) digest) (plain_manifests table.manifests) h in
         let kept = kept_of found.0 found.1 found.2 in
         found_any (λ (entry : List ℕ × Kept). refers entry.1.reading digest) table.manifests found.0 kept.0 kept.1
         (ap (λ (r : Reading). refers r digest) (sym (same_reading found.0 kept.0 kept.1) ∙ ap (reading_at repo found.0) kept.2) ∙ found.3)
 
     back : is_kept_referred table.manifests digest ≡ true → is_referred repo digest ≡ true
     back h =
-        let found = any_found (λ (entry : List ℕ × Kept). refers entry.1.reading digest) table.manifests h in
+        let found = any_found byte_order (λ (entry : List ℕ × Kept). refers entry.1.reading digest) table.manifests h in
         found_any (λ (entry : List ℕ × StoredManifest). refers (reading_at repo entry.0 entry.1) digest) (plain_manifests table.manifests) found.0 (plain_manifest found.1)
         (get_plain table.manifests found.0 ∙ ap (option_map plain_manifest) found.2)
         (ap (λ (r : Reading). refers r digest) (same_reading found.0 found.1 found.2) ∙ found.3)

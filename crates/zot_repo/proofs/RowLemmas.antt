@@ -6,8 +6,9 @@ use Rattle.std.specs.FinMap as map
 use Rattle.std.specs.FinMap.{get-insert}
 use Rattle.std.specs.Ordering.{eq_by_cmp}
 use Rattle.std.specs.BTreeMap.{is_at}
-use Rattle.std.specs.Map.{KeepsOthers, lookup}
-use Rattle.zot_maps.proofs.Maps.{byte_order, entries-insert, found_at, get_elsewhere, get_here, tied_keys}
+use Rattle.std.specs.Map.{lookup}
+use Rattle.zot_maps.proofs.Entries.{Writes, map_written}
+use Rattle.zot_maps.proofs.Maps.{byte_order, found_at, get_elsewhere, get_here, tied_keys}
 use Rattle.zot_digest.specs.ByteMap.{ByteMap, byte_cmp, map_of}
 use Rattle.zot_history.proofs.Runs.{run_one}
 use Rattle.zot_model.proofs.HistoryLemmas.{same_alike}
@@ -96,24 +97,15 @@ repo_found es table name found is has = ap (λ o. unwrap_or o fresh) (has_found 
 name_found : (es : List (List ℕ × RepoState)) (table : Table) (name : List ℕ) (found : RepoState) → table_of es ≡ table → Some found ≡ lookup (is_at (byte_cmp name)) es → HasName table name
 name_found es table name found is has = subst (λ o. IsSome o) (sym (has_found es table name (Some found) is has)) refl
 
--- a tree with a repository written under a name that it has
-abbrev Writes : List (List ℕ × RepoState) → List (List ℕ × RepoState) → List ℕ → RepoState → Type 0
-Writes es fs name written =
-    IsSome (lookup (is_at (byte_cmp name)) es)
-    → ((q : List ℕ) → lookup (is_at (byte_cmp q)) fs ≡ cond (is_at (byte_cmp name) q) (Some written) (lookup (is_at (byte_cmp q)) es))
-    × (lookup (is_at (byte_cmp name)) fs ≡ Some written)
-    × ((q : List ℕ) → is_at (byte_cmp name) q ≡ false → lookup (is_at (byte_cmp q)) fs ≡ lookup (is_at (byte_cmp q)) es)
-    × KeepsOthers (eq_by_cmp byte_cmp) (is_at (byte_cmp name)) es fs
-
+-- the table in which a repository was written in place
 table_written : (es fs : List (List ℕ × RepoState)) (table : Table) (name : List ℕ) (found written : RepoState) → table_of es ≡ table → Some found ≡ lookup (is_at (byte_cmp name)) es
-    → Writes es fs name written → table_of fs ≡ with_repo table name written
+    → Writes byte_order es fs name written → table_of fs ≡ with_repo table name written
 table_written es fs table name found written is has writes =
-    let all = writes (subst (λ o. IsSome o) has refl) in
-    ap (λ (m : ByteMap RepoState). record { repos = m }) (entries-insert byte_order es fs name written all.0) ∙ ap (λ (t : Table). with_repo t name written) is
+    ap (λ (m : ByteMap RepoState). record { repos = m }) (map_written byte_order es fs table.repos name found written (ap (λ (t : Table). t.repos) is) has writes)
 
 -- a call on a repository that the tree has, which is then written there
 pub replies_found : (es fs : List (List ℕ × RepoState)) (table : Table) (name : List ℕ) (found written : RepoState) (moment : ℕ) (call : Call) (reply : Reply)
-    → table_of es ≡ table → Some found ≡ lookup (is_at (byte_cmp name)) es → Writes es fs name written → MayGive moment found call reply written
+    → table_of es ≡ table → Some found ≡ lookup (is_at (byte_cmp name)) es → Writes byte_order es fs name written → MayGive moment found call reply written
     → MayAnswer moment (state_of table) name call reply (state_of (table_of fs)) × KeepsNames table (table_of fs)
 replies_found es fs table name found written moment call reply is has writes gives =
     subst (λ (t : Table). MayAnswer moment (state_of table) name call reply (state_of t) × KeepsNames table t) (sym (table_written es fs table name found written is has writes))

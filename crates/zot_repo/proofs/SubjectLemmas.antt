@@ -1,19 +1,18 @@
 -- Each manifest stays listed under its subject, and the list of referrers is that of the plain repository.
-use Rattle.std.proofs.Common.{◌≡◌, ℕ, Bool, true, List, [], ◌∷◌, map, Option, Some, None, refl, sym, ap, subst, ◌∙◌, unwrap_or, String, Global, string_bytes}
+use Rattle.std.proofs.Common.{◌≡◌, ℕ, Bool, true, false, List, [], ◌∷◌, map, Option, Some, None, refl, sym, ap, subst, ◌∙◌, unwrap_or, String, Global, string_bytes}
 use Rattle.std.specs.Prelude.{IsSomeAnd, OnErr, OnOk, Result, Ok, Err, is_some}
-use Rattle.std.specs.BTreeMap.{BTreeMap}
-use Rattle.std.specs.BTreeSet.{BTreeSet}
 use Rattle.std.specs.FinMap as finite
 use Rattle.std.specs.FinMap.{get-entries}
 use Rattle.std.specs.List.Sorted.{IsStrictlySortedBy}
 use Rattle.std.specs.Map.{keys_of}
 use Rattle.zot_digest.specs.ByteMap.{ByteMap, byte_cmp}
-use Rattle.zot_manifests.proofs.TableLemmas.{lists_insert, lists_kept, lists_none, lists_remove}
-use Rattle.zot_manifests.proofs.TagLemmas.{entries_of_map}
-use Rattle.zot_manifests.specs.Index.{KeepsListed, lists}
+use Rattle.zot_manifests.proofs.IndexLemmas.{is_now, lists_insert, lists_kept, lists_none, lists_remove, others_stay}
+use Rattle.zot_manifests.proofs.SetLemmas.{adds_keep}
+use Rattle.zot_manifests.specs.Index.{Adds, Removes, Sets}
 use Rattle.zot_manifests.specs.Table.{Table, plain_manifest, plain_manifests, with_manifest}
 use Rattle.zot_manifests.specs.declared.kept.Kept.{Kept}
-use Rattle.zot_media.specs.References.{subject_digest}
+use Rattle.zot_maps.proofs.Entries.{AllFound, all_found, entries_of_map, keys_ordered}
+use Rattle.zot_maps.proofs.Maps.{byte_order}
 use Rattle.zot_media.specs.Referrers.{Pushed, referrers_text}
 use Rattle.zot_media.specs.declared.media.Media.{Media}
 use Rattle.zot_media.specs.declared.reading.Reading.{Reading}
@@ -26,38 +25,38 @@ use Rattle.zot_model.specs.Uploads.{UploadTable}
 use Rattle.zot_model.specs.declared.call.Call.TheVariants as calls
 use Rattle.zot_model.specs.declared.reply.Reply.{Reply}
 use Rattle.zot_model.specs.declared.reply.Reply.TheVariants as replies
-use Rattle.zot_referrers.proofs.ListingLemmas.{AllFound, all_found, keys_ordered}
-use Rattle.zot_referrers.specs.Listing.{HasSubject, ListsSubjects, all_pushed, pushed_as}
+use Rattle.zot_referrers.specs.Listing.{ListsSubjects, all_pushed, pushed_as, says_of}
 use Rattle.zot_repo.proofs.ReplyLemmas.{is_plain}
 use Rattle.zot_repo.specs.Replies.{MayGive}
 use Rattle.zot_repo.specs.Repository.{AreRead, IsReadOf, repo_of, size_of}
 
--- the sets of an index
-abbrev pub Sets : Type 0
-Sets = BTreeMap (List ℕ) (BTreeSet (List ℕ))
-
 -- ---- what stays listed
 
-pub subjects_none : (manifests : ByteMap Kept) (sets : Sets) → manifests ≡ finite.empty → ListsSubjects manifests sets
-subjects_none manifests sets is = lists_none HasSubject manifests sets is
+-- whether a kept manifest says something of a digest
+abbrev names : Kept → List ℕ → Bool
+names kept subject = says_of kept.reading subject
 
--- where no manifest came, but more may be listed
-pub subjects_kept : (old new : Table) (before after : Sets) → new ≡ old → KeepsListed before after → ListsSubjects old.manifests before → ListsSubjects new.manifests after
-subjects_kept old new before after is keeps all = subst (λ (t : Table). ListsSubjects t.manifests after) (sym is) (lists_kept HasSubject old.manifests before after keeps all)
+pub subjects_none : (manifests : ByteMap Kept) (sets : Sets (List ℕ)) → manifests ≡ finite.empty → ListsSubjects manifests sets
+subjects_none manifests sets is = lists_none names manifests sets is
 
 -- where a manifest came that was listed before
-pub subjects_put : (old new : Table) (before after : Sets) (digest : List ℕ) (tag : Option (List ℕ)) (media : Media) (arrived : ℕ) (reading : Reading) → new ≡ with_manifest arrived old digest tag media reading → KeepsListed before after
-    → ((subject : List ℕ) → subject_digest reading.subject ≡ Some subject → lists after subject digest ≡ true) → ListsSubjects old.manifests before → ListsSubjects new.manifests after
-subjects_put old new before after digest tag media arrived reading is keeps own all =
-    lists_insert HasSubject old.manifests new.manifests after digest (record { media = media; arrived = arrived; reading = reading }) (ap (λ (t : Table). t.manifests) is)
-    (lists_kept HasSubject old.manifests before after keeps all) own
+pub subjects_put : (old new : Table) (before after : Sets (List ℕ)) (digest : List ℕ) (tag : Option (List ℕ)) (media : Media) (arrived : ℕ) (reading : Reading) → new ≡ with_manifest arrived old digest tag media reading
+    → Adds byte_cmp (says_of reading) digest before after → ListsSubjects old.manifests before → ListsSubjects new.manifests after
+subjects_put old new before after digest tag media arrived reading is adds all =
+    lists_insert names old.manifests new.manifests before after digest (record { media = media; arrived = arrived; reading = reading }) (ap (λ (t : Table). t.manifests) is)
+    (λ named other apart h. adds_keep byte_cmp (says_of reading) digest before after adds named other h) (is_now true (says_of reading) digest before after adds) all
 
 -- whether it came or memory ran out
-pub subjects_after : {X E : Type 0} (result : Result X E) (old new : Table) (before after : Sets) (digest : List ℕ) (tag : Option (List ℕ)) (media : Media) (arrived : ℕ) (reading : Reading)
-    → OnOk result (new ≡ with_manifest arrived old digest tag media reading) → OnErr result (new ≡ old) → KeepsListed before after
-    → ((subject : List ℕ) → subject_digest reading.subject ≡ Some subject → lists after subject digest ≡ true) → ListsSubjects old.manifests before → ListsSubjects new.manifests after
-subjects_after (Ok x) old new before after digest tag media arrived reading ok err keeps own all = subjects_put old new before after digest tag media arrived reading ok keeps own all
-subjects_after (Err e) old new before after digest tag media arrived reading ok err keeps own all = subjects_kept old new before after err keeps all
+pub subjects_after : {X E : Type 0} (result : Result X E) (old new : Table) (before after : Sets (List ℕ)) (digest : List ℕ) (tag : Option (List ℕ)) (media : Media) (arrived : ℕ) (reading : Reading)
+    → OnOk result (new ≡ with_manifest arrived old digest tag media reading) → OnErr result (new ≡ old) → Adds byte_cmp (says_of reading) digest before after → ListsSubjects old.manifests before → ListsSubjects new.manifests after
+subjects_after (Ok x) old new before after digest tag media arrived reading ok err adds all = subjects_put old new before after digest tag media arrived reading ok adds all
+subjects_after (Err e) old new before after digest tag media arrived reading ok err adds all =
+    lists_kept names old.manifests new.manifests before after (ap (λ (t : Table). t.manifests) err) (adds_keep byte_cmp (says_of reading) digest before after adds) all
+
+-- where a manifest went
+pub subjects_gone : (old new : ByteMap Kept) (before after : Sets (List ℕ)) (digest : List ℕ) (reading : Reading) → new ≡ finite.remove old digest → Removes byte_cmp (says_of reading) digest before after
+    → ListsSubjects old before → ListsSubjects new after
+subjects_gone old new before after digest reading is removes all = lists_remove names old new before after digest is (others_stay false (says_of reading) digest before after removes) all
 
 -- ---- the list
 
@@ -75,7 +74,7 @@ module _ (known : Bool) (blobs : ByteMap Stored) (table : Table) (sessions : Upl
   abbrev pushed_plain : List ℕ × StoredManifest → Pushed
   pushed_plain entry = record { digest = entry.0; size = unwrap_or (size_at whole entry.0) 0; media = entry.1.media; reading = reading_at whole entry.0 entry.1 }
 
-  pushed_each : (es : List (List ℕ × Kept)) → AllFound (finite.entries table.manifests) es
+  pushed_each : (es : List (List ℕ × Kept)) → AllFound byte_order (finite.entries table.manifests) es
       → map (λ entry. pushed_as entry.0 (unwrap_or (size_of blobs entry.0) 0) entry.1) es ≡ map pushed_plain (map plain_entry es)
   pushed_each [] h = refl
   pushed_each (e ∷ es) h =
@@ -88,11 +87,11 @@ module _ (known : Bool) (blobs : ByteMap Stored) (table : Table) (sessions : Upl
   same_keys (e ∷ es) = ap (λ (keys : List (List ℕ)). e.0 ∷ keys) (same_keys es)
 
   plain_entries : finite.entries (plain_manifests table.manifests) ≡ map plain_entry (finite.entries table.manifests)
-  plain_entries = entries_of_map (map plain_entry (finite.entries table.manifests)) (subst (λ keys. IsStrictlySortedBy byte_cmp keys) (sym (same_keys (finite.entries table.manifests))) (keys_ordered table.manifests))
+  plain_entries = entries_of_map byte_order (map plain_entry (finite.entries table.manifests)) (subst (λ keys. IsStrictlySortedBy byte_cmp keys) (sym (same_keys (finite.entries table.manifests))) (keys_ordered byte_cmp table.manifests))
 
   -- the manifests of the table, with what is kept of them, are those of the plain repository
   pub pushed_same : all_pushed (size_of blobs) table.manifests ≡ pushed_in whole
-  pushed_same = pushed_each (finite.entries table.manifests) (all_found (finite.entries table.manifests) (keys_ordered table.manifests)) ∙ ap (map pushed_plain) (sym plain_entries)
+  pushed_same = pushed_each (finite.entries table.manifests) (all_found byte_order (finite.entries table.manifests) (keys_ordered byte_cmp table.manifests)) ∙ ap (map pushed_plain) (sym plain_entries)
 
 -- the list of referrers is given
 pub referrers_given : (moment : ℕ) (repo : RepoState) (digest : List ℕ) (filter : Option (List ℕ)) (reply : Reply) → reply ≡ replies.Referrers (referrers_text (pushed_in repo) digest filter) (is_some filter)

@@ -1,6 +1,8 @@
-use Rattle.std.proofs.Common.{sym}
-use Rattle.zot_maps.proofs.Maps.{byte_order, other_key}
+use Rattle.std.proofs.Common.{◌∙◌}
+use Rattle.zot_manifests.proofs.SetLemmas.{dropped}
 use Rattle.zot_manifests.proofs.index.Index.unlist.Goals as goal
 
-pub returns : goal.returns
-returns c = λ asked other apart h. c.unlist.ensures asked other (λ _. other_key byte_order c.args.digest.now other (λ same. apart (sym same))) h
+pub returns-then-take_from : goal.returns-then-take_from
+returns-then-take_from g c = λ digest other.
+    dropped g.K.Ord.cmp c.take_from.new.self.sets.entries c.remove.new.self.entries c.args.digest.now c.remove.ensures.updates.0 (c.take_from.ensures.none c.if-take_from.true) digest other
+    ∙ c.take_from.ensures.removed digest other

@@ -1,7 +1,7 @@
 use Rattle.std.proofs.Common.{sym, ap, subst, ◌∙◌}
 use Rattle.zot_digest.specs.ByteMap.{ByteMap}
-use Rattle.zot_manifests.proofs.TableLemmas.{lists_remove, removed_absent}
-use Rattle.zot_manifests.specs.Index.{ListsAll, RefersTo}
+use Rattle.zot_manifests.proofs.TableLemmas.{lists_gone, removed_absent}
+use Rattle.zot_manifests.specs.Index.{ListsAll}
 use Rattle.zot_manifests.specs.declared.kept.Kept.{Kept}
 use Rattle.zot_manifests.proofs.manifests.Manifests.remove.Goals as goal
 
@@ -15,4 +15,4 @@ returns-in_default-clause-stays c = λ _.
 
 pub invariant_of-self-2 : goal.invariant_of-self-2
 invariant_of-self-2 c =
-    lists_remove RefersTo c.self.inside.manifests c.remove.new.self c.self.inside.index.sets c.remove-2.new.self.sets c.args.digest.now c.remove.ensures.removed c.self.invariant c.remove-2.ensures
+    lists_gone c.self.inside.manifests c.remove.new.self c.self.inside.index.sets c.unlist_references.new.self.sets c.args.digest.now _ c.remove.ensures.removed c.unlist_references.ensures c.self.invariant

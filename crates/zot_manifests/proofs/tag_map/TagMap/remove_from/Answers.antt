@@ -1,4 +1,4 @@
-use Rattle.std.proofs.Common.{refl, sym, ap, ◌∙◌}
+use Rattle.std.proofs.Common.{sym, ap, ◌∙◌}
 use Rattle.std.specs.FinMap as finite
 use Rattle.zot_digest.specs.ByteMap.{ByteMap, map_of}
 use Rattle.zot_maps.proofs.Maps.{byte_order, entries-remove}
@@ -19,4 +19,4 @@ returns-then-is_set_to c =
     (sym c.is_set_to.ensures ∙ c.if-is_set_to.true)
 
 pub returns-else-is_set_to : goal.returns-else-is_set_to
-returns-else-is_set_to c = one_stays c.args.self.now c.args.self.now c.args.text.now c.args.digest.now refl (sym c.is_set_to.ensures ∙ c.if-is_set_to.false)
+returns-else-is_set_to c = one_stays c.args.self.now c.args.text.now c.args.digest.now (sym c.is_set_to.ensures ∙ c.if-is_set_to.false)

@@ -1,14 +1,13 @@
 use Rattle.std.proofs.Common.{◌≡◌, ◌∙◌, true, is_some, refl, sym, ap, subst}
 use Rattle.std.specs.FinMap as map
-use Rattle.zot_manifests.proofs.TableLemmas.{lists_remove}
 use Rattle.zot_manifests.specs.Table.{Table}
 use Rattle.zot_model.specs.State.{RepoState}
 use Rattle.zot_model.specs.declared.call.Call.TheVariants.{DeleteManifest}
 use Rattle.zot_media.specs.declared.reference.Reference.TheVariants as by
-use Rattle.zot_referrers.specs.Listing.{HasSubject}
 use Rattle.zot_repo.proofs.ManifestLemmas.{manifest_deleted, manifest_unknown}
 use Rattle.zot_repo.proofs.ReadLemmas.{reads_remove}
 use Rattle.zot_repo.proofs.ReplyLemmas.{at_call}
+use Rattle.zot_repo.proofs.SubjectLemmas.{subjects_gone}
 use Rattle.zot_repo.specs.Replies.{MayGive}
 use Rattle.zot_repo.specs.Repository.{repo_of}
 use Rattle.zot_repo.proofs.repository.Repository.delete_digest.Goals as goal
@@ -24,7 +23,7 @@ invariant_of-self c =
     let there : is_some (map.get c.self.inside.manifests.manifests c.args.digest.now) ≡ true = ap is_some (sym c.in-Some.ensures) in
     let gone = ap (λ (t : Table). t.manifests) (c.remove-2.ensures.removed (c.remove-2.ensures.was ∙ there)) in (
       reads_remove c.self.inside.manifests.manifests c.remove-2.new.self.manifests c.self.inside.blobs c.args.digest.now gone c.self.invariant.0,
-      lists_remove HasSubject c.self.inside.manifests.manifests c.remove-2.new.self.manifests c.self.inside.subjects.index.sets c.remove.new.self.index.sets c.args.digest.now gone c.self.invariant.1 c.remove.ensures,
+      subjects_gone c.self.inside.manifests.manifests c.remove-2.new.self.manifests c.self.inside.subjects.index.sets c.remove.new.self.index.sets c.args.digest.now c.in-Some.kept.now.reading gone c.remove.ensures c.self.invariant.1,
     )
 
 pub returns : goal.returns

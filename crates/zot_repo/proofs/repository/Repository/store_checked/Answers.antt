@@ -14,7 +14,7 @@ invariant_of-self-2 c = (
   reads_insert c.self.inside.manifests.manifests c.put.new.self.manifests c.self.inside.blobs c.args.checked.digest (record { media = c.args.checked.media; arrived = c.args.moment; reading = c.args.checked.reading })
       (ap (λ (t : Table). t.manifests) c.in-Ok-put.ensures.ok) c.self.invariant.0 (subst (λ (r : RepoState). IsHeld c.args.checked r.blobs) (sym c.self.view_is) c.requires),
   subjects_put c.self.inside.manifests c.put.new.self c.self.inside.subjects.index.sets c.add.new.self.index.sets c.args.checked.digest c.args.checked.tag c.args.checked.media c.args.moment c.args.checked.reading
-      c.in-Ok-put.ensures.ok c.add.ensures.keeps c.in-Ok.ensures.ok c.self.invariant.1,
+      c.in-Ok-put.ensures.ok c.in-Ok.ensures.ok c.self.invariant.1,
 )
 
 pub returns : goal.returns

@@ -1,0 +1,4 @@
+pub mod Causes
+pub mod Configured
+pub mod Files
+pub mod Hosts

@@ -1,0 +1,20 @@
+//! The host: what the program takes from the system beside its streams. It gives files and clocks.
+//!
+//! `configuration(alloc, &mut host, "zot.json")` is the configuration that this file of a host has, or the cause why there is none.
+//! `SystemHost` is the system; `MemoryHost` has its files in memory, and tells them.
+#![tactic(auto)]
+
+mod answers;
+mod host;
+mod host_error;
+mod memory_host;
+mod reading;
+mod system_host;
+mod unconfigured;
+
+pub use crate::host::Host;
+pub use crate::host_error::{HostError, HostResult};
+pub use crate::memory_host::MemoryHost;
+pub use crate::reading::configuration;
+pub use crate::system_host::SystemHost;
+pub use crate::unconfigured::Unconfigured;
