@@ -1,8 +1,8 @@
 -- Which paths can have no object.
-use Rattle.std.proofs.Common.{◌≡◌, ℕ, Bool, true, false, cond, eqb, not, ◌&&◌, ◌==◌, nat_lt, List, [], ◌∷◌, ◌++◌, length, drop, refl, sym, ap, ◌∙◌, String, string_bytes, Result, Ok, Err, IfOk}
+use Rattle.std.proofs.Common.{◌≡◌, ◌≢◌, ◌⊎◌, inl, inr, All, ℕ, Bool, true, false, cond, eqb, not, ◌&&◌, ◌==◌, nat_lt, List, [], ◌∷◌, ◌++◌, length, drop, refl, sym, ap, ◌∙◌, String, string_bytes, Result, Ok, Err, IfOk}
 use Rattle.std.proofs.lemmas.Bool.{and_parts}
 use Rattle.std.specs.List.{list_all, list_any, onto_first, slice_split}
-use Rattle.zot_folder.specs.Paths.{is_object_path, is_part}
+use Rattle.zot_folder.specs.Paths.{IsHiddenBeside, is_object_path, is_part}
 
 -- the parts of a path
 abbrev parts : List ℕ → List (List ℕ)
@@ -49,6 +49,18 @@ hidden_below folder name = whole_from_tail (parts (folder ++ 47 ∷ 46 ∷ name)
 pub hidden_in_folder : {Z E : Type 0} (made : Result (String Z) E) (folder name : List ℕ) → IfOk made (λ path. string_bytes path ≡ folder ++ 47 ∷ 46 ∷ name) → IfOk made (λ path. is_object_path (string_bytes path) ≡ false)
 hidden_in_folder (Ok path) folder name is = ap is_object_path is ∙ hidden_below folder name
 hidden_in_folder (Err error) folder name is = tt
+
+module _ {Z E : Type 0} where
+  -- a name with a dot before it, in the folder of a path
+  pub beside_in_folder : (made : Result (String Z) E) (path folder last name : List ℕ) → (path ≡ folder ++ 47 ∷ last) × All (λ b. b ≢ 47) last → IfOk made (λ hidden. string_bytes hidden ≡ folder ++ 47 ∷ 46 ∷ name)
+      → IfOk made (λ hidden. IsHiddenBeside path (string_bytes hidden))
+  beside_in_folder (Ok hidden) path folder last name cut is = (last, name, cut.1, inl (folder, cut.0, is))
+  beside_in_folder (Err error) path folder last name cut is = tt
+
+  -- and of one without a slash
+  pub beside_alone : (made : Result (String Z) E) (path name : List ℕ) → All (λ b. b ≢ 47) path → IfOk made (λ hidden. string_bytes hidden ≡ 46 ∷ name) → IfOk made (λ hidden. IsHiddenBeside path (string_bytes hidden))
+  beside_alone (Ok hidden) path name plain is = (path, name, plain, inr (refl, is))
+  beside_alone (Err error) path name plain is = tt
 
 -- nor can one that ends with a slash
 slashed_tail : (stem : List ℕ) → list_all is_part (tail (parts (stem ++ 47 ∷ []))) ≡ false

@@ -27,7 +27,7 @@ cut_at : (path before after : List ℕ) → path ≡ before ++ 47 ∷ after → 
 cut_at path [] after is plain = (after, plain, inr (refl, is))
 cut_at path (b ∷ bs) after is plain = (after, plain, inl (is ∙ sym (append_assoc (b ∷ bs) (47 ∷ []) after)))
 
-plain_text : (text : List ℕ) → RFindsChar 47 text None → All (λ b. b ≢ 47) text
+pub plain_text : (text : List ℕ) → RFindsChar 47 text None → All (λ b. b ≢ 47) text
 plain_text text none = All-from_get_or (λ b. b ≢ 47) text 0 (λ i inside. NoCharPasses-char 47 text i none (lit< tt) inside)
 
 -- where a path is cut at its last slash

@@ -14,3 +14,8 @@ is_object_path path = list_all is_part (slice_split (λ b. b == 47) path)
 abbrev pub IsParentOf : List ℕ → List ℕ → Type 0
 IsParentOf path parent =
     (last : List ℕ) × All (λ b. b ≢ 47) last × (((path ≡ parent ++ 47 ∷ last) × (parent ≢ [])) ⊎ ((path ≡ 47 ∷ last) × (parent ≡ 47 ∷ [])) ⊎ ((path ≡ last) × (parent ≡ 46 ∷ [])))
+
+-- a path lies in the folder of another, and its last part begins with a dot
+abbrev pub IsHiddenBeside : List ℕ → List ℕ → Type 0
+IsHiddenBeside path hidden =
+    (last name : List ℕ) × All (λ b. b ≢ 47) last × (((folder : List ℕ) × (path ≡ folder ++ 47 ∷ last) × (hidden ≡ folder ++ 47 ∷ 46 ∷ name)) ⊎ ((path ≡ last) × (hidden ≡ 46 ∷ name)))

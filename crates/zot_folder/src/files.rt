@@ -10,9 +10,10 @@ use std::{fs, io};
 /// How many bytes of a file are copied at a time.
 const PIECE: usize = 262_144;
 
-/// Fills a buffer from a place of a reader on, as far as the reader reaches, and answers how many bytes there are.
+/// Fills a buffer from a place of a reader on, as far as the reader reaches, and answers how many bytes there are. Where they don't fill the buffer, nothing is left.
 pub fn read_from<S: Read + Seek>(source: &mut S, at: u64, buf: &mut [u8]) -> io::Result<usize>
-    ensures { IfOk result (λ n. n ≤ length buf.new) }
+    ensures within { IfOk result (λ n. n ≤ length buf.new) }
+    ensures over { IfOk result (λ n. n < length buf.new → IsOver (S.remaining source.new)) }
 {
     source.seek(SeekFrom::Start(at))?;
     fill(source, buf)

@@ -1,12 +1,13 @@
 //! The paths of fresh files, which are written first and then get an object's path.
 ghost use Rattle.std.specs.Prelude.{◌≡◌, ◌∷◌, ◌++◌, false, IfOk, IsTrue, string_bytes};
-ghost use Rattle.zot_folder.specs.Paths.{is_object_path};
+ghost use Rattle.zot_folder.specs.Paths.{IsHiddenBeside, is_object_path};
 
 use std::alloc::{AllocError, Global};
 
 /// The path of a fresh file of a number, in the folder of a path's file. No object has it.
 pub fn fresh_path(alloc: Global, path: &str, number: u32) -> Result<String, AllocError>
-    ensures { IfOk result (λ fresh. is_object_path (string_bytes fresh) ≡ false) }
+    ensures hidden { IfOk result (λ fresh. is_object_path (string_bytes fresh) ≡ false) }
+    ensures beside { IfOk result (λ fresh. IsHiddenBeside path.now (string_bytes fresh)) }
 {
     let name = format!(in alloc; "zot-new-{number}")?;
     match path.rsplit_once('/') {

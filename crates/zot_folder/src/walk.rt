@@ -1,5 +1,5 @@
 //! The files of a tree, one after another by their paths.
-ghost use Rattle.std.specs.Prelude.{◌≡◌, ◌≢◌, ◌<◌, ◌≤◌, ◌⊎◌, ℕ, false, [], IfOk, IfSome, List, OnOk, length, map as each, option_map, string_bytes, vec_len};
+ghost use Rattle.std.specs.Prelude.{◌≡◌, ◌≢◌, ◌<◌, ◌≤◌, ◌⊎◌, ℕ, false, [], IfOk, IfSome, List, OnOk, Some, length, map as each, option_map, string_bytes, vec_len};
 ghost use Rattle.std.specs.FinMap as map;
 ghost use Rattle.std.specs.List.{AllWithin, HoldsAt};
 ghost use Rattle.std.specs.declared.cmp.Ordering.TheVariants.{Greater, Less};
@@ -10,7 +10,6 @@ ghost use Rattle.zot_folder.specs.Trees.{objects_of};
 ghost use Rattle.zot_folder.specs.Walks.{IsFolderOf, Searches, ShowsAfter, is_prefix};
 ghost use Rattle.zot_folder.specs.declared.listing.Listing.{Listing};
 ghost use Rattle.zot_outside.specs.Objects.{Follows, Keeps, Objects, path_cmp};
-ghost use Rattle.std.specs.Prelude.{Some};
 
 use crate::listing::Listing;
 use crate::paths::is_less;
