@@ -4,7 +4,7 @@ use Rattle.std.proofs.lemmas.Bool.{false_from_ne_true}
 use Rattle.std.proofs.lemmas.List.{take_rest, drop_all}
 use Rattle.std.proofs.lemmas.List.Sums.{position_or_len_is}
 use Rattle.memchr.specs.Find.{NoneBefore, Nowhere, Passes, is_byte}
-use Rattle.zot_contents.proofs.reading.cut.Goals as goal
+use Rattle.zot_cuts.proofs.cutting.cut.Goals as goal
 
 first_place : (at : ℕ) (bytes : List ℕ) (place : ℕ) → NoneBefore (Passes (is_byte at) bytes) 0 (length bytes) place × Passes (is_byte at) bytes place → position_or_len (λ b. b == at) bytes ≡ place
 first_place at bytes place h =
@@ -18,13 +18,13 @@ no_place at bytes none =
 pub returns-in-Some : goal.returns-in-Some
 returns-in-Some c =
     let bytes = c.args.bytes.now in
-    let found = first_place 32 bytes c.in-Some.place c.in-Some.ensures in
+    let found = first_place c.args.at bytes c.in-Some.place c.in-Some.ensures in
     record { before = ap (λ n. take n bytes) (sym found); after = take_rest bytes _ ∙ ap (λ n. drop (n + 1) bytes) (sym found) }
 
 pub returns-in-None : goal.returns-in-None
 returns-in-None c =
     let bytes = c.args.bytes.now in
-    let none = no_place 32 bytes c.in-None.ensures in
+    let none = no_place c.args.at bytes c.in-None.ensures in
     record {
       before = sym (ap (λ n. take n bytes) none ∙ take_all (length bytes) bytes (omega arith));
       after = sym (ap (λ n. drop (n + 1) bytes) none ∙ drop_all (length bytes + 1) bytes (omega arith));
