@@ -11,7 +11,9 @@ use Rattle.zot_model.specs.Plain.{Goes, IsPlain, MayAnswer, Rise, Stay}
 use Rattle.zot_model.specs.Refusals.{no_memory}
 use Rattle.zot_model.specs.State.{AreSame, RowState}
 use Rattle.zot_outside.proofs.MomentLemmas.{at_before, stays_itself, stays_through}
-use Rattle.zot_outside.specs.Moments.{IsAt, StaysAt}
+use Rattle.zot_outside.specs.Moments.{StaysAt}
+use Rattle.zot_session.specs.declared.end.End.{End}
+use Rattle.zot_session.specs.Session.{Served}
 use Rattle.zot_session.specs.Exchanges.{Conducts, Exchange, answered, declined}
 use Rattle.zot_commands.specs.Entries.{AllHadMemory, AnswersOver, AreEntries, AreOf, HadMemory, HappensPlainly, PlainRun, Records, StandBefore}
 
@@ -118,3 +120,10 @@ module _ {A N M : Type 0} (told : A → Option ℕ) (row : A → RowState) (tabl
   conducts_run old new (declined message reply ∷ exchanges) h none =
       let ran = conducts_run old new exchanges h none in
       (records (told old) (row old) (row new) (declined message reply ∷ exchanges) ran.0.entries (none new) ran.0.own ran.0.run, ran.1, ran.2, ran.3)
+
+-- a connection was served at the moment that another clock tells too, and from another table with the same state
+pub served_at : {told other : Option ℕ} {old row : RowState} (new : RowState) (end : End) (l m h k : Option (List ℕ)) → told ≡ other → old ≡ row
+    → Served (λ exchanges. Records told old exchanges new) end l m h k → Served (λ exchanges. Records other row exchanges new) end l m h k
+served_at {told = told} {other = other} {old = old} {row = row} new end l m h k moment same served =
+    subst (λ (r : RowState). Served (λ exchanges. Records other r exchanges new) end l m h k) same
+    (subst (λ (t : Option ℕ). Served (λ exchanges. Records t old exchanges new) end l m h k) moment served)
