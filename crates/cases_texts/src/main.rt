@@ -8,6 +8,7 @@ mod layouts;
 mod manifests;
 mod names;
 mod readings;
+mod rows;
 mod values;
 
 use std::io;
@@ -42,6 +43,7 @@ fn call(case: &Case, answer: &mut Answer) {
         "index" => layouts::index(answer, given),
         "written" => layouts::written(answer, given),
         "marker" => layouts::marker(answer, given),
+        "rows" => rows::rows(answer, given),
         _ => answer.fail("no such call"),
     }
 }
