@@ -1,17 +1,15 @@
 -- Why a layout wasn't read, put together from the calls that were made.
-use Rattle.std.proofs.Common.{◌≡◌, ◌≢◌, ℕ, ◌≤◌, Option, Some, None, IfSome, Result, Ok, Err, refl, sym, ap, subst, ◌∙◌, arith}
+use Rattle.std.proofs.Common.{◌≡◌, ◌≢◌, ℕ, ◌≤◌, Option, Some, None, IfSome, Result, Ok, Err, sym, ap, subst, ◌∙◌, arith}
 use Rattle.std.specs.Prelude.{if◌then◌else◌, Bool, true, false, List}
 use Rattle.std.specs.Result.{IsErrAnd}
 use Rattle.std.proofs.lemmas.Result.{err_from_is_err_and}
 use Rattle.std.specs.List.{list_all}
 use Rattle.serde_json.specs.Data.{Data}
 use Rattle.zot_media.specs.Fields.{document}
-use Rattle.zot_outside.specs.Faults.{Rose}
 use Rattle.zot_layout.specs.Causes.{Answers, HasLayoutCause, SaysNothing}
 use Rattle.zot_outside.specs.Objects.{Objects}
 use Rattle.zot_layout.specs.Marker.{is_marker, marker_meaning}
 use Rattle.zot_layout.specs.Reading.{IsJust, IsWhy, has_version, listed_in, may_stand, meaning, meaning_in, meaning_of, state_of}
-use Rattle.zot_layout.specs.declared.index_state.IndexState.{IndexState}
 use Rattle.zot_layout.specs.declared.layout_error.LayoutError.{LayoutError}
 use Rattle.zot_layout.specs.declared.layout_error.LayoutError.TheVariants as errors
 use Rattle.zot_layout.specs.declared.listed.Listed.{Listed}

@@ -13,7 +13,7 @@ use Rattle.zot_outside.specs.Objects.{ChangesAt, Objects}
 use Rattle.zot_layout.specs.Marker.{is_marker}
 use Rattle.zot_layout.specs.Paths.{IsPathOf, index_end, index_path, marker_end, marker_path}
 use Rattle.zot_layout.specs.Reading.{meaning}
-use Rattle.zot_layout.specs.Rows.{AreMarked, Opened, OpensRow, index_by, known_by, layout_by, layout_of, opened, with_first, with_others}
+use Rattle.zot_layout.specs.Rows.{Opened, OpensRow, index_by, known_by, layout_by, layout_of, opened, with_first, with_others}
 use Rattle.zot_layout.specs.Stands.{AreAlike, StandsFor, StandsForRow, opened_manifest, opened_repo, opened_tag, repo_among, repo_of}
 use Rattle.zot_layout.specs.State.{as_written}
 use Rattle.zot_layout.specs.declared.index_state.IndexState.{IndexState}

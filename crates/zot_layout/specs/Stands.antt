@@ -1,5 +1,5 @@
 -- The state that a row's part stands for, repository by repository. Uploads, how many were opened, and pulls aren't stored; the blobs of a repository lie in other parts.
-use Rattle.std.specs.Prelude.{◌≡◌, ◌≢◌, ℕ, Bool, true, if◌then◌else◌, List, [], ◌∷◌, map, Option, Some, None, Result, Ok, option_map}
+use Rattle.std.specs.Prelude.{◌≡◌, ℕ, true, if◌then◌else◌, List, [], ◌∷◌, map, Option, Some, None, Ok, option_map}
 use Rattle.std.specs.FinMap as finite
 use Rattle.std.specs.Str.{bytes_eq}
 use Rattle.zot_digest.specs.ByteMap.{map_of}

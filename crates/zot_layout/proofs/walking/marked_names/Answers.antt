@@ -1,9 +1,9 @@
-use Rattle.std.proofs.Common.{◌≡◌, IfSome, Some, None, option_map, string_bytes, refl, sym, ap, subst, ◌∙◌, arith}
+use Rattle.std.proofs.Common.{◌≡◌, IfSome, Some, None, option_map, string_bytes, refl, subst, ◌∙◌}
 use Rattle.zot_outside.specs.Objects.{Follows}
 use Rattle.zot_outside.specs.PathWalks.{HasRoom, last_path}
 use Rattle.zot_layout.specs.Rows.{IsOfRow}
 use Rattle.zot_layout.specs.Walks.{IsMarkerOf}
-use Rattle.zot_layout.proofs.WalkLemmas.{Walked, walked_first, walked_last, walked_on}
+use Rattle.zot_layout.proofs.WalkLemmas.{walked_first, walked_last, walked_on}
 use Rattle.zot_layout.proofs.walking.marked_names.Goals as goal
 
 pub loop-init : goal.loop-init
