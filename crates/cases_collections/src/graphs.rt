@@ -119,7 +119,13 @@ fn children_of(
 }
 
 // Adds a manifest with its children. The kind says whether it has a tag that stays or one that goes, is young, or has a subject.
-fn add_manifest(answer: &mut Answer, graph: &mut Repository, parent: u64, kind: u64, children: &[u64]) {
+fn add_manifest(
+    answer: &mut Answer,
+    graph: &mut Repository,
+    parent: u64,
+    kind: u64,
+    children: &[u64],
+) {
     let alloc = answer.alloc();
     let arrived = if kind == 2 { MOMENT } else { 0 };
     let mut row = empty_row(answer, digest_at(parent), arrived);
