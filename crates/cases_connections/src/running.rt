@@ -3,7 +3,8 @@ use std::alloc::Global;
 use std::io::{self, ErrorKind};
 use zot_cases::{Answer, cut, number};
 use zot_commands::{run_given, run_waiting};
-use zot_fakes::{HandClock, MemorySink, MemorySource};
+use zot_fakes::{MemorySink, MemorySource};
+use zot_host::MemoryHost;
 
 /// The numbers of the calls that fail: of the reads, of the writes to the output, and of those to the notes; 0 for none.
 #[derive(Clone, Copy)]
@@ -37,8 +38,10 @@ pub fn run_words(
     );
     let mut sink = MemorySink::in_pieces(alloc, piece, list_of(alloc, &[failing.write]));
     let mut notes = MemorySink::in_pieces(alloc, 4, list_of(alloc, &[failing.note]));
-    let mut clock = HandClock::new(7);
-    let status = run_waiting(alloc, words, &mut clock, &mut source, &mut sink, &mut notes);
+    let Ok(mut host) = MemoryHost::new(alloc, Vec::new(alloc), 7) else {
+        return Answer::new(alloc);
+    };
+    let status = run_waiting(alloc, words, &mut host, &mut source, &mut sink, &mut notes);
     text_of(alloc, status.code, &notes, &sink)
 }
 
@@ -102,7 +105,7 @@ pub fn words(answer: &mut Answer, given: &str) {
 }
 
 /// `memory`, `text` or words as above: what the program does where memory ran out while its arguments were read, where one
-/// of them is no text, or where they are its name and more words. The input ends in a head.
+/// of them is no text, or where they are its name and more words. The input ends in a head, and the host has no files.
 pub fn arguments(answer: &mut Answer, given: &str) {
     let alloc = answer.alloc();
     let arguments = match given {
@@ -113,11 +116,13 @@ pub fn arguments(answer: &mut Answer, given: &str) {
     let mut source = MemorySource::new(list_of(alloc, b"GET"), 4, Vec::new(alloc));
     let mut sink = MemorySink::new(alloc, Vec::new(alloc));
     let mut notes = MemorySink::new(alloc, Vec::new(alloc));
-    let mut clock = HandClock::new(7);
+    let Ok(mut host) = MemoryHost::new(alloc, Vec::new(alloc), 7) else {
+        return answer.fail("out of memory");
+    };
     let status = run_given(
         alloc,
         arguments,
-        &mut clock,
+        &mut host,
         &mut source,
         &mut sink,
         &mut notes,

@@ -44,8 +44,8 @@ pub fn marker(answer: &mut Answer, given: &str) {
     }
 }
 
-// What a state holds.
-fn says(answer: &mut Answer, state: &IndexState) {
+/// What a state holds.
+pub fn says(answer: &mut Answer, state: &IndexState) {
     for manifest in state.manifests.as_slice() {
         answer.begin();
         answer.give(manifest.digest.text(answer.alloc()));

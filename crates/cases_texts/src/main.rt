@@ -8,13 +8,18 @@ mod layouts;
 mod manifests;
 mod names;
 mod readings;
+mod rows;
 mod values;
 
 use std::io;
 use std::process::ExitCode;
 use zot_cases::{Answer, Case, run};
 use zot_digest::ordered_as_text;
-use zot_layout::what_is_read_is_an_index;
+use zot_layout::{
+    a_marker_makes_known, a_path_is_of_one_repository, a_write_is_of_one_repository,
+    an_index_is_the_state, other_paths_leave_a_repository, what_is_read_is_an_index,
+    what_is_stored_elsewhere_leaves_it, without_a_marker_it_is_fresh,
+};
 use zot_media::{annotations_ascend, only_texts_are_read, text_is_read};
 use zot_names::{bytes_of_names, bytes_of_tags, components_of_names};
 
@@ -42,6 +47,7 @@ fn call(case: &Case, answer: &mut Answer) {
         "index" => layouts::index(answer, given),
         "written" => layouts::written(answer, given),
         "marker" => layouts::marker(answer, given),
+        "rows" => rows::rows(answer, given),
         _ => answer.fail("no such call"),
     }
 }
@@ -56,5 +62,13 @@ fn main(rt: HostRuntime) -> io::Result<ExitCode> {
     only_texts_are_read();
     annotations_ascend();
     what_is_read_is_an_index();
+    // And of all rows.
+    a_path_is_of_one_repository();
+    other_paths_leave_a_repository();
+    a_marker_makes_known();
+    an_index_is_the_state();
+    without_a_marker_it_is_fresh();
+    a_write_is_of_one_repository();
+    what_is_stored_elsewhere_leaves_it();
     run(&rt, call)
 }

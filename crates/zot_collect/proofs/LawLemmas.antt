@@ -18,7 +18,7 @@ use Rattle.zot_retention.specs.declared.tag_row.TagRow.{TagRow}
 
 -- ---- tests
 
-not_true : (b : Bool) → not b ≡ true → b ≡ false
+pub not_true : (b : Bool) → not b ≡ true → b ≡ false
 not_true true h = sym h
 not_true false h = refl
 
@@ -30,7 +30,7 @@ and_left : (a b : Bool) → (a && b) ≡ true → a ≡ true
 and_left true b h = refl
 and_left false b h = h
 
-and_right : (a b : Bool) → (a && b) ≡ true → b ≡ true
+pub and_right : (a b : Bool) → (a && b) ≡ true → b ≡ true
 and_right true b h = h
 and_right false b h = absurd (true≢false (sym h))
 
@@ -79,7 +79,7 @@ any_filtered : {X : Type 0} (p q : X → Bool) (xs : List X) → list_any q (fil
 any_filtered p q [] = refl
 any_filtered p q (x ∷ xs) = any_one q x (filter p xs) (p x) ∙ ap (λ b. (p x && q x) || b) (any_filtered p q xs)
 
-any_mapped : {X Y : Type 0} (f : X → Y) (q : Y → Bool) (xs : List X) → list_any q (map f xs) ≡ list_any (λ x. q (f x)) xs
+pub any_mapped : {X Y : Type 0} (f : X → Y) (q : Y → Bool) (xs : List X) → list_any q (map f xs) ≡ list_any (λ x. q (f x)) xs
 any_mapped f q [] = refl
 any_mapped f q (x ∷ xs) = ap (λ b. q (f x) || b) (any_mapped f q xs)
 

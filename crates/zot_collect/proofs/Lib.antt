@@ -4,3 +4,4 @@ pub mod PlaceLemmas
 pub mod SpreadLemmas
 pub mod WalkLemmas
 pub mod LawLemmas
+pub mod RegistryLemmas

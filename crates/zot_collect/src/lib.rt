@@ -12,6 +12,7 @@ mod laws;
 mod leftover;
 mod order;
 mod place;
+mod registry;
 mod retire_view;
 mod retired;
 mod retiring;
@@ -21,6 +22,7 @@ mod sweeping;
 
 pub use crate::laws::{child_stays, collected_again, removed_once, swept_again};
 pub use crate::order::are_in_order;
+pub use crate::registry::{retired_by_rules, swept_one_by_one};
 pub use crate::retire_view::RetireView;
 pub use crate::retired::Retired;
 pub use crate::retiring::retire;

@@ -11,7 +11,9 @@ use Rattle.zot_model.specs.Plain.{Goes, IsPlain, MayAnswer, Rise, Stay}
 use Rattle.zot_model.specs.Refusals.{no_memory}
 use Rattle.zot_model.specs.State.{AreSame, RowState}
 use Rattle.zot_outside.proofs.MomentLemmas.{at_before, stays_itself, stays_through}
-use Rattle.zot_outside.specs.Moments.{IsAt, StaysAt}
+use Rattle.zot_outside.specs.Moments.{StaysAt}
+use Rattle.zot_session.specs.declared.end.End.{End}
+use Rattle.zot_session.specs.Session.{Served}
 use Rattle.zot_session.specs.Exchanges.{Conducts, Exchange, answered, declined}
 use Rattle.zot_commands.specs.Entries.{AllHadMemory, AnswersOver, AreEntries, AreOf, HadMemory, HappensPlainly, PlainRun, Records, StandBefore}
 
@@ -88,8 +90,8 @@ records_over (Some name) told old mid new request reply exchanges answer ran = (
 records_before : (told later : Option ℕ) (old new : RowState) (exchanges : List Exchange) → new.faults ≡ 0 → StaysAt told later → Records later old exchanges new → Records told old exchanges new
 records_before told later old new exchanges none h ran = records told old new exchanges ran.entries none (entries_before told later exchanges ran.entries h ran.own) ran.run
 
--- what answers from a borrowed table and clock: what the clock tells, the table's state, which has no storage fault, and which table and clock they are
-module _ {A N M : Type 0} (told : A → Option ℕ) (row : A → RowState) (faultless : (a : A) → (row a).faults ≡ 0) (table : A → N) (clock : A → M) where
+-- what answers from a borrowed table and clock: what the clock tells, the table's state, and which table and clock they are
+module _ {A N M : Type 0} (told : A → Option ℕ) (row : A → RowState) (table : A → N) (clock : A → M) where
   -- one request was answered
   abbrev pub AnswersOne : A → Request → Reply → A → Type 0
   AnswersOne old request reply new = AnswersOver request.name (told old) (row old) request reply (row new) × StaysAt (told old) (told new) × (table new ≡ table old) × (clock new ≡ clock old)
@@ -98,17 +100,30 @@ module _ {A N M : Type 0} (told : A → Option ℕ) (row : A → RowState) (faul
   abbrev pub Ran : A → List Exchange → A → Type 0
   Ran old exchanges new = Records (told old) (row old) exchanges (row new) × StaysAt (told old) (told new) × (table new ≡ table old) × (clock new ≡ clock old)
 
-  recorded : (exchanges : List Exchange) (old new : A) → ((entries : List Entry) × AreEntries (told old) exchanges entries × Run (row old) entries (row new)) → Records (told old) (row old) exchanges (row new)
-  recorded exchanges old new h = records (told old) (row old) (row new) exchanges h.0 (faultless new) h.1 h.2
+  -- the table has no storage fault
+  abbrev Faultless : Type 0
+  Faultless = (a : A) → (row a).faults ≡ 0
+
+  recorded : (exchanges : List Exchange) (old new : A) → Faultless → ((entries : List Entry) × AreEntries (told old) exchanges entries × Run (row old) entries (row new)) → Records (told old) (row old) exchanges (row new)
+  recorded exchanges old new none h = records (told old) (row old) (row new) exchanges h.0 (none new) h.1 h.2
 
   -- the exchanges of a connection make a run of the table
-  pub conducts_run : (old new : A) (exchanges : List Exchange) → Conducts AnswersOne old exchanges new → Ran old exchanges new
-  conducts_run old new [] h = (records (told old) (row old) (row new) [] [] (faultless new) refl (subst (λ a. AreSame (row old) (row a)) (sym h) (same_itself (row old))), subst (λ a. StaysAt (told old) (told a)) (sym h) (stays_itself (told old)), ap table h, ap clock h)
-  conducts_run old new (answered message request reply ∷ exchanges) h =
-      let ran = conducts_run h.0 new exchanges h.2 in (
-        recorded (answered message request reply ∷ exchanges) old new (records_over request.name (told old) (row old) (row h.0) (row new) request reply exchanges h.1.0 (records_before (told old) (told h.0) (row h.0) (row new) exchanges (faultless new) h.1.1 ran.0)),
+  pub conducts_run : (old new : A) (exchanges : List Exchange) → Conducts AnswersOne old exchanges new → Faultless → Ran old exchanges new
+  conducts_run old new [] h none = (records (told old) (row old) (row new) [] [] (none new) refl (subst (λ a. AreSame (row old) (row a)) (sym h) (same_itself (row old))), subst (λ a. StaysAt (told old) (told a)) (sym h) (stays_itself (told old)), ap table h, ap clock h)
+  conducts_run old new (answered message request reply ∷ exchanges) h none =
+      let ran = conducts_run h.0 new exchanges h.2 none in (
+        recorded (answered message request reply ∷ exchanges) old new none (records_over request.name (told old) (row old) (row h.0) (row new) request reply exchanges h.1.0 (records_before (told old) (told h.0) (row h.0) (row new) exchanges (none new) h.1.1 ran.0)),
         stays_through (told old) (told h.0) (told new) h.1.1 ran.1,
         ran.2 ∙ h.1.2,
         ran.3 ∙ h.1.3,
       )
-  conducts_run old new (declined message reply ∷ exchanges) h = let ran = conducts_run old new exchanges h in (records (told old) (row old) (row new) (declined message reply ∷ exchanges) ran.0.entries (faultless new) ran.0.own ran.0.run, ran.1, ran.2, ran.3)
+  conducts_run old new (declined message reply ∷ exchanges) h none =
+      let ran = conducts_run old new exchanges h none in
+      (records (told old) (row old) (row new) (declined message reply ∷ exchanges) ran.0.entries (none new) ran.0.own ran.0.run, ran.1, ran.2, ran.3)
+
+-- a connection was served at the moment that another clock tells too, and from another table with the same state
+pub served_at : {told other : Option ℕ} {old row : RowState} (new : RowState) (end : End) (l m h k : Option (List ℕ)) → told ≡ other → old ≡ row
+    → Served (λ exchanges. Records told old exchanges new) end l m h k → Served (λ exchanges. Records other row exchanges new) end l m h k
+served_at {told = told} {other = other} {old = old} {row = row} new end l m h k moment same served =
+    subst (λ (r : RowState). Served (λ exchanges. Records other r exchanges new) end l m h k) same
+    (subst (λ (t : Option ℕ). Served (λ exchanges. Records t old exchanges new) end l m h k) moment served)

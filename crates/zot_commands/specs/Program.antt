@@ -1,6 +1,9 @@
 -- The program's words, what a command did, its exit status and its note.
-use Rattle.std.specs.Prelude.{◌≡◌, ◌≢◌, ℕ, List, [], ◌∷◌, ◌++◌, Option, Some, None, IfSome, ◌⊎◌, codes}
+use Rattle.std.specs.Prelude.{◌≡◌, ◌≢◌, ℕ, ◌||◌, Bool, false, List, [], ◌∷◌, Option, Some, None, IfSome, ◌⊎◌, codes}
+use Rattle.std.specs.Borrow.{Bor}
 use Rattle.std.specs.Fmt.{decimal}
+use Rattle.std.specs.List.{concat, flat_map}
+use Rattle.std.specs.Str.{bytes_eq}
 use Rattle.std.specs.declared.io.ErrorKind.{ErrorKind}
 use Rattle.std.specs.declared.io.ErrorKind.TheVariants.{OutOfMemory}
 use Rattle.zot_model.specs.State.{RowState, empty_row}
@@ -17,9 +20,22 @@ use Rattle.zot_commands.specs.Entries.{Records}
 unfoldable pub pipe_words : List (List ℕ)
 pipe_words = codes "pipe" ∷ []
 
+-- the first words of the commands that may wait
+unfoldable pub is_waiting_word : List ℕ → Bool
+is_waiting_word word = bytes_eq word (codes "pipe") || (bytes_eq word (codes "serve") || bytes_eq word (codes "load"))
+
+-- these words begin with such a word
+abbrev pub is_waiting : List (List ℕ) → Bool
+is_waiting [] = false
+is_waiting (word ∷ words) = is_waiting_word word
+
 -- the exit status for words that fit no command
 abbrev pub words_status : ℕ
 words_status = 2
+
+-- a command's status: that of words that fit no command, or that of some way to end
+abbrev pub IsStatusOf : {A : Type 0} → (A → ℕ) → ℕ → Type 0
+IsStatusOf {A = A} status_of code = (code ≡ words_status) ⊎ ((ending : A) × (code ≡ status_of ending))
 
 -- the exit status for an end of the connection of `pipe`
 abbrev pub exit_status : End → ℕ
@@ -31,14 +47,14 @@ exit_status ends.WriteFault = 6
 exit_status ends.Budget = 7
 exit_status ends.NoMemory = 8
 
--- the end of a line: a space and a number, where there is one, and LF
-unfoldable pub line_end : Option ℕ → List ℕ
-line_end None = 10 ∷ []
-line_end (Some n) = 32 ∷ decimal n ++ 10 ∷ []
+-- some texts one after another
+abbrev pub joined : List (Bor (List ℕ)) → List ℕ
+joined texts = flat_map (λ text. text.now) texts
 
 -- a line of these words and of a number, where there is one
 unfoldable pub line : List ℕ → Option ℕ → List ℕ
-line words number = words ++ line_end number
+line words None = concat (words ∷ codes "\n" ∷ [])
+line words (Some n) = concat (words ∷ codes " " ∷ decimal n ∷ codes "\n" ∷ [])
 
 -- the line for words that fit no command
 unfoldable pub words_line : List ℕ

@@ -1,13 +1,12 @@
 //! The lines that the program notes.
-ghost use Rattle.std.specs.Prelude.{[], ◌∷◌, ◌++◌, OnOk, OnErr, decimal};
-ghost use Rattle.zot_outside.specs.Faults.{HasCause};
-ghost use Rattle.zot_outside.specs.Streams.{Appends};
-ghost use Rattle.zot_session.specs.Sending.{WritesPart};
-ghost use Rattle.zot_commands.specs.Program.{Notes, line, line_end, line_of};
+ghost use Rattle.zot_commands.specs.Program.{Notes, joined, line, line_of};
+ghost use Rattle.zot_commands.specs.Verify.{ending_line};
 
+use crate::ending::Ending;
+use crate::texts::write_texts;
 use itoa::Buffer;
-use zot_outside::{Failed, Sink};
-use zot_session::{End, write_all};
+use zot_outside::Sink;
+use zot_session::End;
 
 /// Notes how a connection ended, unless it was closed between messages. Takes no memory; a failing write is ignored.
 #[tactic(auto, unfolding(crate::specs::Program::line_of))]
@@ -16,54 +15,60 @@ pub fn note_end<N: Sink>(notes: &mut N, end: End)
 {
     match end {
         End::Closed => {}
-        End::Refused(status) => note(notes, b"zotd: refused", Some(status as u64)),
-        End::Torn(n) => note(notes, b"zotd: torn", Some(n)),
-        End::ReadFault => note(notes, b"zotd: read fault", None),
-        End::WriteFault => note(notes, b"zotd: write fault", None),
-        End::Budget => note(notes, b"zotd: budget", None),
-        End::NoMemory => note(notes, b"zotd: no memory", None),
+        End::Refused(status) => note_number(notes, b"zotd: refused", status as u64),
+        End::Torn(n) => note_number(notes, b"zotd: torn", n),
+        End::ReadFault => note(notes, b"zotd: read fault"),
+        End::WriteFault => note(notes, b"zotd: write fault"),
+        End::Budget => note(notes, b"zotd: budget"),
+        End::NoMemory => note(notes, b"zotd: no memory"),
     }
 }
 
-/// Notes a line: the words, then a space and the number if there is one. Takes no memory; a failing write is ignored.
-pub fn note<N: Sink>(notes: &mut N, words: &[u8], number: Option<u64>)
-    ensures { Notes (line words.now number) (N.held notes.old) (N.held notes.new) (N.faults notes.old) (N.faults notes.new) }
+/// Notes how a command ended that reads a configuration from the file of a path, unless it was done. Takes no memory; a failing write is ignored.
+#[tactic(auto, unfolding(crate::specs::Verify::ending_line))]
+pub fn note_ending<N: Sink>(notes: &mut N, path: &str, ending: &Ending)
+    ensures { Notes (ending_line path.now ending.now) (N.held notes.old) (N.held notes.new) (N.faults notes.old) (N.faults notes.new) }
 {
-    let _ = write_line(notes, words, number);
+    match ending {
+        Ending::Done => {}
+        Ending::WriteFault => note(notes, b"zotd: write fault"),
+        Ending::NoMemory => note(notes, b"zotd: no memory"),
+        Ending::Wrong { field, found } => note_texts(
+            notes,
+            &[
+                b"zotd: config ",
+                field.as_str().as_bytes(),
+                b": ",
+                found.as_str().as_bytes(),
+                b"\n",
+            ],
+        ),
+        Ending::HostFault => note(notes, b"zotd: host fault"),
+        Ending::Missing => note_texts(notes, &[b"zotd: missing ", path.as_bytes(), b"\n"]),
+    }
 }
 
-// Writes such a line, as far as the sink takes it.
+/// Notes a line of these words. Takes no memory; a failing write is ignored.
 #[tactic(auto, unfolding(crate::specs::Program::line))]
-fn write_line<N: Sink>(notes: &mut N, words: &[u8], number: Option<u64>) -> Result<(), Failed>
-    ensures cause { HasCause (N.faults notes.old) (N.faults notes.new) result }
-    ensures ok { OnOk result (Appends (N.held notes.old) (line words.now number) (N.held notes.new)) }
-    ensures err { OnErr result (WritesPart (N.held notes.old) (line words.now number) (N.held notes.new)) }
+pub fn note<N: Sink>(notes: &mut N, words: &[u8])
+    ensures { Notes (line words.now None) (N.held notes.old) (N.held notes.new) (N.faults notes.old) (N.faults notes.new) }
 {
-    write_all(notes, words)?;
-    write_end(notes, number)
+    note_texts(notes, &[words, b"\n"]);
 }
 
-// Writes what follows the words, as far as the sink takes it.
-#[tactic(auto, unfolding(crate::specs::Program::line_end))]
-fn write_end<N: Sink>(notes: &mut N, number: Option<u64>) -> Result<(), Failed>
-    ensures cause { HasCause (N.faults notes.old) (N.faults notes.new) result }
-    ensures ok { OnOk result (Appends (N.held notes.old) (line_end number) (N.held notes.new)) }
-    ensures err { OnErr result (WritesPart (N.held notes.old) (line_end number) (N.held notes.new)) }
-{
-    match number {
-        Some(n) => write_number(notes, n),
-        None => write_all(notes, b"\n"),
-    }
-}
-
-// Writes a space, a number and the end of the line, as far as the sink takes them.
-fn write_number<N: Sink>(notes: &mut N, n: u64) -> Result<(), Failed>
-    ensures cause { HasCause (N.faults notes.old) (N.faults notes.new) result }
-    ensures ok { OnOk result (Appends (N.held notes.old) (32 ∷ decimal n ++ 10 ∷ []) (N.held notes.new)) }
-    ensures err { OnErr result (WritesPart (N.held notes.old) (32 ∷ decimal n ++ 10 ∷ []) (N.held notes.new)) }
+// Notes a line of these words, a space and a number.
+#[tactic(auto, unfolding(crate::specs::Program::line))]
+fn note_number<N: Sink>(notes: &mut N, words: &[u8], n: u64)
+    ensures { Notes (line words.now (Some n)) (N.held notes.old) (N.held notes.new) (N.faults notes.old) (N.faults notes.new) }
 {
     let mut buffer = Buffer::new();
-    write_all(notes, b" ")?;
-    write_all(notes, buffer.format(n).as_bytes())?;
-    write_all(notes, b"\n")
+    let digits = buffer.format(n).as_bytes();
+    note_texts(notes, &[words, b" ", digits, b"\n"]);
+}
+
+// Notes some texts one after another.
+fn note_texts<N: Sink>(notes: &mut N, texts: &[&[u8]])
+    ensures { Notes (joined texts.now) (N.held notes.old) (N.held notes.new) (N.faults notes.old) (N.faults notes.new) }
+{
+    let _ = write_texts(notes, texts);
 }

@@ -1,3 +1,13 @@
 pub mod LineLemmas
 pub mod NameLemmas
 pub mod RecordLemmas
+pub mod PathLemmas
+pub mod StandLemmas
+pub mod PromotionLemmas
+pub mod TightLemmas
+pub mod ToldLemmas
+pub mod LinkLemmas
+pub mod OrderLemmas
+pub mod PartLemmas
+pub mod WriteLemmas
+pub mod MeaningLemmas

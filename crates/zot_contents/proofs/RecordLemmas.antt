@@ -106,7 +106,7 @@ line_is : (part : List ℕ) (line : RecordLine) → line_of part ≡ Some line �
 unfolding line_of
 line_is part line h =
     elim (bytes_eq (take 2 part) (codes "W ")) as (λ b. bytes_eq (take 2 part) (codes "W ") ≡ b
-        → (if b then whole_line (drop 2 part) else if bytes_eq (take 2 part) (codes "L ") then link_line (drop 2 part) else None) ≡ Some line → (line_text line ≡ part) × NamesRepos line) [
+    → (if b then whole_line (drop 2 part) else if bytes_eq (take 2 part) (codes "L ") then link_line (drop 2 part) else None) ≡ Some line → (line_text line ≡ part) × NamesRepos line) [
       | true ↦ λ is k. let found = whole_is (drop 2 part) line k in (found.0 ∙ begins part (codes "W ") is, found.1)
       | false ↦ λ _ k.
           elim (bytes_eq (take 2 part) (codes "L ")) as (λ b. bytes_eq (take 2 part) (codes "L ") ≡ b → (if b then link_line (drop 2 part) else None) ≡ Some line → (line_text line ≡ part) × NamesRepos line) [
@@ -235,8 +235,7 @@ record_by_is (last ∷ before) lines h =
     elim (is_feed last) as (λ b. is_feed last ≡ b → (if b then if_in_order (each_line (slice_split is_feed (reverse before))) else None) ≡ Some lines → (reverse (last ∷ before) ≡ record_text lines) × AreLines lines) [
       | true ↦ λ is k.
           let found = ordered (each_line (slice_split is_feed (reverse before))) lines k in
-          let each = each_is (slice_split is_feed (reverse before)) lines found.0 in
-          (
+          let each = each_is (slice_split is_feed (reverse before)) lines found.0 in (
             reverse_first last before ∙ ap (λ c. reverse before ++ c ∷ []) (eqb-true last 10 is) ∙ text_from (reverse before) lines each.0,
             record { names = each.1; ascend = (ascends [] lines found.1).1 },
           )

@@ -1,1 +1,5 @@
 pub mod Records
+pub mod Meaning
+pub mod Promotion
+pub mod Changes
+pub mod Orders

@@ -1,15 +1,15 @@
 //! Cache records read.
 ghost use Rattle.std.specs.Prelude.{◌≡◌, ◌≢◌, ◌==◌, List, [], true, false, Some, None, IfOk};
-ghost use Rattle.std.specs.List.{after_first, before_first, slice_split};
-ghost use Rattle.zot_contents.specs.Records.{AreLines, each_line, in_order, is_feed, is_less, is_name, is_space, line_of, link_line, record_of, record_text, whole_line};
+ghost use Rattle.std.specs.List.{slice_split};
+ghost use Rattle.zot_contents.specs.Records.{AreLines, each_line, in_order, is_feed, is_less, is_name, line_of, link_line, record_of, record_text, whole_line};
 ghost use Rattle.zot_contents.specs.declared.record_line.RecordLine.{RecordLine};
 
 use crate::record_error::RecordError;
 use crate::record_line::RecordLine;
-use memchr::memchr;
 use std::alloc::Global;
 use std::cmp::Ordering;
 use std::str;
+use zot_cuts::cut;
 use zot_names::{NameError, RepoName};
 
 /// The lines of a cache record. `Bad` comes exactly where the bytes aren't the text of lines in order.
@@ -106,24 +106,13 @@ fn read_link(alloc: Global, rest: &[u8]) -> Result<RecordLine, RecordError>
     ensures read { IfOk result (λ line. link_line rest.now ≡ Some line) }
     ensures bad { result ≡ Err RecordError.Bad → link_line rest.now ≡ None }
 {
-    let (name, origin) = cut(rest);
+    let (name, origin) = cut(rest, b' ');
     let name = read_name(alloc, name)?;
     let origin = read_name(alloc, origin)?;
     Ok(RecordLine {
         name,
         origin: Some(origin),
     })
-}
-
-// What stands before the first space, and what stands after it.
-fn cut(bytes: &[u8]) -> (&[u8], &[u8])
-    ensures before { result.0.now ≡ before_first is_space bytes.now }
-    ensures after { result.1.now ≡ after_first is_space bytes.now }
-{
-    match memchr(b' ', bytes) {
-        Some(place) => (&bytes[..place], &bytes[place + 1..]),
-        None => (bytes, &[]),
-    }
 }
 
 // The name that these bytes are.

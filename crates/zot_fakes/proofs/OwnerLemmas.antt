@@ -1,5 +1,5 @@
 -- A path is owned in one way.
-use Rattle.std.proofs.Common.{◌≡◌, ◌≢◌, ℕ, ◌%◌, ◌==◌, inl, inr, Bool, true, false, List, [], ◌∷◌, ◌++◌, length, drop, slice_index, Option, Some, None, refl, sym, ap, ◌∙◌, subst, arith, codes, IsAscii, length-append}
+use Rattle.std.proofs.Common.{◌≡◌, ◌≢◌, ℕ, ◌%◌, ◌==◌, inl, inr, Bool, true, List, [], ◌∷◌, ◌++◌, length, drop, slice_index, Option, Some, None, refl, sym, ap, ◌∙◌, subst, arith, codes, IsAscii, length-append}
 use Rattle.std.specs.Prelude.{IfOk, IsTrue, MatchOption, nat_lt, is_some, Result, Ok, Err}
 use Rattle.std.specs.Borrow.{Bor}
 use Rattle.std.specs.List.{list_all}
@@ -105,8 +105,8 @@ pub owns_by_parts : (shard : ℕ) (path folder digits : List ℕ) → path ≡ f
 owns_by_parts shard path folder digits is long = (
   λ h. record { folder = folder; digits = digits; of_digests = h.0; of_shard = h.1; spelled = is },
   λ h.
-    let same = same_ends h.folder folder h.digits digits (digits_long shard h.digits h.of_shard ∙ sym long) (sym h.spelled ∙ is) in
-    (subst (λ f. IsFolderOfDigests f) same.0 h.of_digests, subst (λ d. AreDigitsOf shard d) same.1 h.of_shard),
+      let same = same_ends h.folder folder h.digits digits (digits_long shard h.digits h.of_shard ∙ sym long) (sym h.spelled ∙ is) in
+      (subst (λ f. IsFolderOfDigests f) same.0 h.of_digests, subst (λ d. AreDigitsOf shard d) same.1 h.of_shard),
 )
 
 -- a path that can't be cut is no shard's

@@ -1,5 +1,5 @@
 -- Objects given to a part one by one, and parts one by one to a cluster.
-use Rattle.std.proofs.Common.{◌≡◌, ℕ, zero, suc, ◌+◌, ◌<◌, inl, inr, List, [], ◌∷◌, ◌++◌, length, get_or, take, reverse, map as each, Some, None, refl, sym, ap, ◌∙◌, subst, cond, arith, length-append, slice_get, IsSomeAnd}
+use Rattle.std.proofs.Common.{◌≡◌, ℕ, zero, suc, ◌+◌, ◌<◌, inl, inr, List, [], ◌∷◌, ◌++◌, length, get_or, take, map as each, Some, refl, sym, ap, ◌∙◌, subst, cond, arith, length-append, slice_get, IsSomeAnd}
 use Rattle.std.specs.FinMap as map
 use Rattle.std.specs.FinMap.{get-empty, get-insert}
 use Rattle.std.specs.Ordering.{eq_by_cmp}
@@ -83,13 +83,13 @@ pub parts_more : (part_at : ℕ → Part) (count : ℕ) (all : Objects) (stores 
 parts_more part_at count all stores store h is = record {
   count_is = omega (arith, h.count_is, length-append stores (store ∷ []));
   each_part = λ number below.
-    elim (cases_lt number count) [
-      | inl front ↦ subst (λ o. IsSomeAnd o (λ s. IsPartOf (part_at number) all s)) (sym (get_front stores store number (omega (arith, front, h.count_is)))) (h.each_part number front)
-      | inr last ↦
-          let here : number ≡ length stores = omega (arith, last, below, h.count_is) in
-          let top : count ≡ number = omega (arith, here, h.count_is) in
-          subst (λ o. IsSomeAnd o (λ s. IsPartOf (part_at number) all s)) (sym (ap (λ n. slice_get (stores ++ store ∷ []) n) here ∙ get_last stores store)) (subst (λ n. IsPartOf (part_at n) all store) top is)
-    ];
+      elim (cases_lt number count) [
+        | inl front ↦ subst (λ o. IsSomeAnd o (λ s. IsPartOf (part_at number) all s)) (sym (get_front stores store number (omega (arith, front, h.count_is)))) (h.each_part number front)
+        | inr last ↦
+            let here : number ≡ length stores = omega (arith, last, below, h.count_is) in
+            let top : count ≡ number = omega (arith, here, h.count_is) in
+            subst (λ o. IsSomeAnd o (λ s. IsPartOf (part_at number) all s)) (sym (ap (λ n. slice_get (stores ++ store ∷ []) n) here ∙ get_last stores store)) (subst (λ n. IsPartOf (part_at n) all store) top is)
+      ];
 }
 
 -- two copies of an object

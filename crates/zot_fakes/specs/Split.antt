@@ -1,6 +1,5 @@
 -- The parts of a cluster's storage in memory.
 use Rattle.std.specs.Prelude.{◌≡◌, ℕ, ◌<◌, List, [], length, slice_get, IsSomeAnd}
-use Rattle.zot_fakes.specs.Calls.{Count}
 use Rattle.zot_fakes.specs.Fakes.{memory_calls, memory_objects}
 use Rattle.zot_fakes.specs.Owners.{HasItsOwn}
 use Rattle.zot_fakes.specs.declared.memory_store.MemoryStore.{MemoryStore}

@@ -1,11 +1,11 @@
 //! Which part of a cluster's storage owns a path.
-ghost use Rattle.std.specs.Prelude.{◌≡◌, ◌≢◌, ◌++◌, ◌↔◌, ℕ, List, IfOk, IsTrue, MatchOption, length, option_map};
+ghost use Rattle.std.specs.Prelude.{◌≡◌, ◌≢◌, ◌++◌, ◌↔◌, ℕ, List, IfOk, IsTrue, MatchOption, option_map};
 ghost use Rattle.zot_fakes.specs.Owners.{AreDigitsOf, HasMembers, IsCut, IsFolderOfCluster, IsFolderOfDigests, IsOfRepository, Owns, RowOwns, ShardOwns};
 ghost use Rattle.zot_names.specs.Name.{IsName};
 ghost use Rattle.zot_siphash.specs.Owners.{AreMembers};
 
 use std::alloc::{AllocError, Global};
-use zot_digest::{Digest, parse_digest};
+use zot_digest::parse_digest;
 use zot_names::is_name;
 use zot_siphash::row_of;
 

@@ -53,10 +53,7 @@ fn rows(
 }
 
 // The parts of the shards.
-fn shards(
-    alloc: Global,
-    objects: &[(String, Vec<u8>)],
-) -> Result<Vec<MemoryStore>, AllocError>
+fn shards(alloc: Global, objects: &[(String, Vec<u8>)]) -> Result<Vec<MemoryStore>, AllocError>
     ensures { IfOk result (λ shards. AreParts shard_part 16 (objects_of (each (λ o. (string_bytes o.0, o.1.items)) objects.now)) shards.items) }
 {
     let mut shards = Vec::new(alloc);

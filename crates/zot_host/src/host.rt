@@ -14,7 +14,7 @@ pub trait Host {
     ghost use Rattle.zot_outside.specs.Objects.{Objects};
 
     /// A clock of the host.
-    type T: Clock;
+    type T: Clock + Drop;
 
     // The files by their paths, or none if the host doesn't tell. No call changes them.
     ghost files: { Self → Option Objects };

@@ -1,6 +1,5 @@
 //! A host in memory.
 ghost use Rattle.std.specs.Prelude.{◌≡◌, IfOk, map as each, string_bytes};
-ghost use Rattle.zot_fakes.specs.Fakes.{clock_moment, memory_objects};
 ghost use Rattle.zot_fakes.specs.Given.{objects_of};
 
 use crate::host::Host;

@@ -9,7 +9,11 @@ use std::alloc::Global;
 use zot_config::{Config, ConfigError, read_config};
 
 /// The configuration that the file of a path has: exactly the one that its bytes stand for, or their first wrong field. `Missing` comes exactly where the host tells that the file isn't there, `Failed` only where its count of faults rose.
-pub fn configuration<H: Host>(alloc: Global, host: &mut H, path: &str) -> Result<Config, Unconfigured>
+pub fn configuration<H: Host>(
+    alloc: Global,
+    host: &mut H,
+    path: &str,
+) -> Result<Config, Unconfigured>
     ensures cause { CountsFaults result (H.faults host.old) (H.faults host.new) }
     ensures config { IsOf (H.files host.old) path.now result }
     ensures files { H.files host.new ≡ H.files host.old }

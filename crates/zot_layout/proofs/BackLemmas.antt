@@ -33,7 +33,7 @@ pub all_of : {A : Type 0} (P Q : A → Type 0) → ((x : A) → P x → Q x) →
 all_of P Q f [] h = tt
 all_of P Q f (x ∷ xs) h = (f x h.0, all_of P Q f xs h.1)
 
-all_joined : {A : Type 0} (P : A → Type 0) (xs ys : List A) → AllByRecursion P xs → AllByRecursion P ys → AllByRecursion P (xs ++ ys)
+pub all_joined : {A : Type 0} (P : A → Type 0) (xs ys : List A) → AllByRecursion P xs → AllByRecursion P ys → AllByRecursion P (xs ++ ys)
 all_joined P [] ys h k = k
 all_joined P (x ∷ xs) ys h k = (h.0, all_joined P xs ys h.1 k)
 

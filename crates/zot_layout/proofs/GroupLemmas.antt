@@ -1,17 +1,16 @@
 -- Tags that are grouped by the digests of their manifests.
 use Rattle.std.proofs.Common.{◌≡◌, ℕ, Bool, true, false, cond, List, [], ◌∷◌, ◌++◌, map, Option, Some, None, Vec, Global, Bor, append-nil, refl, sym, ap, subst, ◌∙◌}
 use Rattle.std.specs.Prelude.{◌||◌, if◌then◌else◌, option_copied, Result, Ok, Err, OnOk}
-use Rattle.std.specs.BTreeMap.{BTreeMap, get, is_at}
+use Rattle.std.specs.BTreeMap.{is_at}
 use Rattle.std.specs.List.{filter, list_any}
 use Rattle.std.specs.Map.{lookup}
-use Rattle.std.specs.Ordering.{eq_by_cmp}
 use Rattle.std.proofs.lemmas.Bool.{true≢false}
 use Rattle.std.proofs.lemmas.List.Elements.{filter-append}
 use Rattle.std.proofs.lemmas.Slice.Eq.{bytes_eq-Decides}
 use Rattle.serde_json.specs.Data.{Data}
 use Rattle.zot_digest.specs.ByteMap.{byte_cmp}
 use Rattle.zot_maps.proofs.Maps.{byte_order, same_key, tied_keys}
-use Rattle.zot_layout.specs.Groups.{AreGroups, IsGroup}
+use Rattle.zot_layout.specs.Groups.{IsGroup}
 use Rattle.zot_layout.specs.State.{is_of}
 use Rattle.zot_layout.specs.Text.{descriptors_of, tagged, untagged}
 use Rattle.zot_layout.specs.declared.index_manifest.IndexManifest.{IndexManifest}

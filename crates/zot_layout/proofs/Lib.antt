@@ -8,3 +8,8 @@ pub mod BackLemmas
 pub mod IndexLemmas
 pub mod OrderLemmas
 pub mod GroupLemmas
+pub mod CauseLemmas
+pub mod RowLemmas
+pub mod WalkLemmas
+pub mod StandsLemmas
+pub mod OpeningLemmas

@@ -5,3 +5,8 @@ pub mod Groups
 pub mod Text
 pub mod Reading
 pub mod Marker
+pub mod Paths
+pub mod Causes
+pub mod Rows
+pub mod Walks
+pub mod Stands

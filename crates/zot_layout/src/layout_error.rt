@@ -40,3 +40,14 @@ impl From<AllocError> for LayoutError {
         LayoutError::NoMemory
     }
 }
+
+impl<T: Drop> From<AllocFailed<T>> for LayoutError {
+    ghost use Rattle.std.specs.Prelude.{◌≡◌};
+    ghost use Rattle.zot_layout.specs.declared.layout_error.LayoutError.TheVariants.{NoMemory};
+
+    ghost from_gives = { λ _ e. e ≡ NoMemory };
+
+    fn from(_: AllocFailed<T>) -> LayoutError {
+        LayoutError::NoMemory
+    }
+}

@@ -1,7 +1,8 @@
-//! The index and the marker of a repository's image layout, read and written.
+//! The index and the marker of a repository's image layout, read and written, and the repositories of a row.
 //!
 //! `index_text(alloc, &state)` is the text of `index.json` for what a repository has of manifests and tags, and
 //! `read_index(alloc, path, bytes, moment)` is exactly what such bytes mean, also as other tools write them.
+//! `open_row(alloc, &mut part, row, members, &key, moment)` gives the repositories of a row that a store holds.
 #![tactic(auto)]
 
 mod descriptors;
@@ -16,16 +17,26 @@ mod listing;
 mod marker;
 mod moment;
 mod notes;
+mod opening;
 mod parts;
+mod paths;
 mod reading;
+mod repository;
 mod sorting;
 mod text;
+mod walking;
 
 pub use crate::index_manifest::{IndexManifest, IndexManifestList};
 pub use crate::index_state::IndexState;
 pub use crate::index_tag::{IndexTag, IndexTagList};
-pub use crate::laws::what_is_read_is_an_index;
+pub use crate::laws::{
+    a_marker_makes_known, a_path_is_of_one_repository, a_write_is_of_one_repository,
+    an_index_is_the_state, other_paths_leave_a_repository, what_is_read_is_an_index,
+    what_is_stored_elsewhere_leaves_it, without_a_marker_it_is_fresh,
+};
 pub use crate::layout_error::LayoutError;
 pub use crate::marker::{marker_text, read_marker};
+pub use crate::opening::open_row;
 pub use crate::reading::read_index;
+pub use crate::repository::read_layout;
 pub use crate::text::index_text;

@@ -5,7 +5,6 @@
 #![tactic(auto)]
 
 mod calls;
-mod cuts;
 mod decoded_text;
 mod form;
 mod laws;

@@ -4,9 +4,9 @@ ghost use Rattle.std.specs.List.{filter};
 ghost use Rattle.zot_media.specs.Media.{media_named as media_named_of};
 ghost use Rattle.zot_route.specs.Lines.{AreMedia, is_hop as is_hop_of, range_of, span_of as span_of_text, type_of as type_of_value};
 
-use crate::cuts::cut;
 use std::alloc::{AllocError, Global};
 use std::str;
+use zot_cuts::cut;
 use zot_head::{Field, first_named, length_of};
 use zot_media::{Media, media_in, media_of};
 use zot_model::Span;

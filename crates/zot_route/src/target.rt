@@ -3,10 +3,10 @@ ghost use Rattle.std.specs.Prelude.{◌≡◌, ◌==◌, IfOk, IsUtf8, MatchOpti
 ghost use Rattle.std.specs.List.{AllByRecursion};
 ghost use Rattle.zot_route.specs.Path.{decoded, segments_of, query_of};
 
-use crate::cuts::cut;
 use crate::decoded_text::DecodedText;
 use std::alloc::{AllocError, Global};
 use std::marker::Model;
+use zot_cuts::cut;
 
 /// The target of a request, cut into its path and its query (RFC 3986, section 3.4). Contracts see its text.
 #[derive(Drop)]

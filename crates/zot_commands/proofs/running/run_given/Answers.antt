@@ -1,12 +1,21 @@
-use Rattle.std.proofs.Common.{◌≡◌, ◌∙◌, Bool, true, false, IsTrue, refl, sym, ap, drop, map, string_bytes}
-use Rattle.std.specs.declared.io.ErrorKind.{ErrorKind}
-use Rattle.std.specs.declared.io.ErrorKind.TheVariants.{OutOfMemory}
+use Rattle.std.proofs.Common.{◌∙◌, refl, ap, drop, map, string_bytes}
 use Rattle.zot_commands.proofs.WordLemmas.{false_unless}
 use Rattle.zot_commands.proofs.running.run_given.Goals as goal
 
+pub returns-in-Ok-clause-pipe : goal.returns-in-Ok-clause-pipe
+returns-in-Ok-clause-pipe g c =
+    let same = ap (λ words. map string_bytes words) (c.after_name.ensures ∙ ap (λ words. drop 1 words) c.as_slice.ensures.value) in
+    rw (c.in-Ok.is, ← same) c.run_words.ensures.pipe
+
+pub returns-in-Ok-clause-verify : goal.returns-in-Ok-clause-verify
+returns-in-Ok-clause-verify g c =
+    let same = ap (λ words. map string_bytes words) (c.after_name.ensures ∙ ap (λ words. drop 1 words) c.as_slice.ensures.value) in
+    rw (c.in-Ok.is, ← same) c.run_words.ensures.verify
+
 pub returns-in-Ok-clause-words : goal.returns-in-Ok-clause-words
 returns-in-Ok-clause-words g c =
-    rw c.in-Ok.is (λ other. c.run_waiting.ensures.words (λ is. other (ap (λ words. map string_bytes words) (sym (c.after_name.ensures ∙ ap (λ words. drop 1 words) c.as_slice.ensures.value)) ∙ is)))
+    let same = ap (λ words. map string_bytes words) (c.after_name.ensures ∙ ap (λ words. drop 1 words) c.as_slice.ensures.value) in
+    rw (c.in-Ok.is, ← same) c.run_words.ensures.words
 
 pub returns-in-Err-clause-unread : goal.returns-in-Err-clause-unread
 returns-in-Err-clause-unread g c =

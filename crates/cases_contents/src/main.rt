@@ -1,0 +1,33 @@
+//! Cases of the contents of digests: cache records, and the orders of writes.
+//!
+//! A case as `one-whole: record W a\n => a whole` makes the call `read_record`, and `record_text` has to give the text back.
+#![tactic(auto)]
+
+mod records;
+mod writes;
+
+use std::io;
+use std::process::ExitCode;
+use zot_cases::{Answer, Case, run};
+use zot_contents::{
+    held_elsewhere, object_calls_are_local, record_calls_are_local, what_stands_means,
+};
+
+// Makes the call of a case.
+fn call(case: &Case, answer: &mut Answer) {
+    match case.call {
+        "record" => records::record(answer, case.given),
+        "long" => records::long(answer, case.given),
+        "writes" => writes::writes(answer, case.given),
+        _ => answer.fail("no such call"),
+    }
+}
+
+fn main(rt: HostRuntime) -> io::Result<ExitCode> {
+    // The laws that hold of all digests' objects, of which the cases are some.
+    object_calls_are_local();
+    record_calls_are_local();
+    held_elsewhere();
+    what_stands_means();
+    run(&rt, call)
+}

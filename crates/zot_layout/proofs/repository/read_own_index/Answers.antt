@@ -1,0 +1,10 @@
+use Rattle.zot_layout.proofs.CauseLemmas.{nothing_told}
+use Rattle.zot_layout.specs.Rows.{index_by}
+use Rattle.zot_layout.specs.Paths.{index_path}
+use Rattle.std.specs.FinMap as map
+use Rattle.zot_layout.proofs.repository.read_own_index.Goals as goal
+
+pub returns-in_err-bytes-clause-told : goal.returns-in_err-bytes-clause-told
+returns-in_err-bytes-clause-told g c =
+    nothing_told (g.S.Store.objects c.args.part.now) (λ told. index_by c.args.name.now c.args.moment (map.get told (index_path c.args.name.now)))
+    c.from_residual-in_err-bytes.result c.in_err-bytes.field-0.0 c.from_residual-in_err-bytes.ensures.1 c.in_err-bytes.ensures.error
