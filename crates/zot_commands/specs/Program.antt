@@ -76,10 +76,12 @@ Notes text before after faults_before faults_after =
     (Appends before text after × (faults_after ≡ faults_before)) ⊎ (WritesPart before text after × Rose faults_before faults_after)
 
 -- a connection was served over an empty table, at the moment that a clock tells, and ended so; where nothing failed, the end is the one that its bytes give
+-- A table in memory has no storage fault, so no reply says that the storage failed
 pub record Pipes (told : Option ℕ) (end : End) (left_before left_after held_before held_after : Option (List ℕ)) : Type 0 where
   pub table : RowState
   pub served : Served (λ exchanges. Records told empty_row exchanges table) end left_before left_after held_before held_after
   pub of_bytes : ¬ HasFailed end → IfSome left_before (λ bytes. EndsAs bytes end)
+  pub faults : table.faults ≡ 0
 
 -- where these are the words of `pipe`, a connection was served, and the status and the note are those of its end
 abbrev pub RunsPipe : List (List ℕ) → Option ℕ → ℕ → Option (List ℕ) → Option (List ℕ) → Option (List ℕ) → Option (List ℕ) → (List ℕ → Type 0) → Type 0
