@@ -1,10 +1,9 @@
 //! Orders of writes on the objects of a digest, over a store in memory.
 use zot_cases::{Answer, cut, word};
-use zot_contents::{Links, add, object_is, promote, put_object, relink, remove};
+use zot_contents::{Links, hold_bytes, hold_link, object_is, release};
 use zot_digest::{Digest, digest_of};
 use zot_fakes::MemoryStore;
 use zot_names::RepoName;
-use zot_outside::StoreResult;
 
 /// `NUMBERS; STEP; ..`: the answers of orders of writes under the digest of `abc`, over an empty store whose calls of these
 /// numbers fail, how many calls were made, and the objects that are there then.
@@ -27,7 +26,7 @@ pub fn writes(answer: &mut Answer, given: &str) {
     objects(answer, &store);
 }
 
-// Makes a step: an order of writes, or a call.
+// Makes a step.
 fn one(
     answer: &mut Answer,
     store: &mut MemoryStore,
@@ -36,40 +35,36 @@ fn one(
     step: &str,
 ) {
     let alloc = answer.alloc();
-    let bytes = answer.read(word(step, 3));
-    let other = RepoName::read(alloc, word(step, 2)).ok();
+    let bytes = answer.read(word(step, 2));
     let Ok(name) = RepoName::read(alloc, word(step, 1)) else {
         answer.fail("no name");
         return;
     };
-    let done = match (word(step, 0), &other) {
-        ("add", other) => add(
-            store,
-            alloc,
-            digest,
-            links,
-            &name,
-            other.as_ref(),
-            bytes.as_slice(),
-        ),
-        ("relink", other) => relink(store, alloc, digest, links, &name, other.as_ref()),
-        ("promote", Some(least)) => promote(store, alloc, digest, links, &name, least),
-        ("remove", _) => remove(store, alloc, digest, links, &name),
-        ("put", _) => put_object(store, alloc, digest, &name, bytes.as_slice()),
-        _ => {
-            has(
-                answer,
-                &object_is(store, alloc, digest, &name, bytes.as_slice()),
-            );
-            return;
+    match word(step, 0) {
+        "hold" => {
+            let held = hold_bytes(store, alloc, digest, links, &name, bytes.as_slice());
+            answer.show(&held);
         }
-    };
-    answer.show(&done);
+        "link" => link(answer, store, digest, links, &name, word(step, 2)),
+        "release" => answer.show(&release(store, alloc, digest, links, &name)),
+        _ => answer.show(&object_is(store, alloc, digest, &name, bytes.as_slice())),
+    }
 }
 
-// Adds whether an object has some bytes.
-fn has(answer: &mut Answer, same: &StoreResult<bool>) {
-    answer.show(same);
+// Makes a link to a repository.
+fn link(
+    answer: &mut Answer,
+    store: &mut MemoryStore,
+    digest: &Digest,
+    links: &mut Links,
+    name: &RepoName,
+    to: &str,
+) {
+    let alloc = answer.alloc();
+    match RepoName::read(alloc, to) {
+        Ok(origin) => answer.show(&hold_link(store, alloc, digest, links, name, &origin)),
+        Err(_) => answer.fail("no origin"),
+    }
 }
 
 // Adds each object of a store, of which there are less than 9: the record under `record`, and the others under their

@@ -11,3 +11,6 @@ pub mod OrderLemmas
 pub mod PartLemmas
 pub mod WriteLemmas
 pub mod MeaningLemmas
+pub mod HoldLemmas
+pub mod ReleaseLemmas
+pub mod LinkingLemmas

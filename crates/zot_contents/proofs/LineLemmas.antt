@@ -5,7 +5,7 @@ use Rattle.std.specs.Prelude.{IfOk, Result, Ok, Err, codes, if◌then◌else◌}
 use Rattle.std.specs.List.{slice_split}
 use Rattle.std.proofs.lemmas.Bool.{eqb-true, false_from_ne_true}
 use Rattle.std.specs.Str.{bytes_eq}
-use Rattle.std.proofs.lemmas.List.{at_drop_all, at_drop_more, reverse-append, reverse-reverse}
+use Rattle.std.proofs.lemmas.List.{at_drop_more, reverse-append, reverse-reverse}
 use Rattle.zot_contents.specs.Records.{each_line, if_in_order, in_order, is_feed, join_line, line_of, link_line, record_by, record_of, whole_line}
 use Rattle.zot_contents.specs.declared.record_line.RecordLine.{RecordLine}
 

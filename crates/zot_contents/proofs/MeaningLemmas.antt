@@ -1,5 +1,5 @@
 -- What a digest's objects mean is a matter of its own paths, and there is one where they stand for some holders.
-use Rattle.std.proofs.Common.{◌≡◌, ◌≢◌, ℕ, List, Option, Some, None, is_some, refl, sym, ap, ◌∙◌}
+use Rattle.std.proofs.Common.{◌≡◌, ◌≢◌, ℕ, List, Option, is_some, sym, ap, ◌∙◌}
 use Rattle.std.specs.FinMap as map
 use Rattle.zot_digest.specs.Digest.{IsDigest}
 use Rattle.zot_outside.specs.Objects.{ChangesAt, Objects}

@@ -1,8 +1,7 @@
 -- What each order of writes makes of what is held.
-use Rattle.std.proofs.Common.{◌≡◌, ◌≢◌, ℕ, inl, inr, Bool, true, false, List, Option, Some, None, is_some, IsSome, IfSome, refl, sym, ap, subst, ◌∙◌}
+use Rattle.std.proofs.Common.{◌≡◌, ◌≢◌, ℕ, inl, inr, List, Option, Some, None, is_some, IfSome, refl, sym, ap, subst, ◌∙◌}
 use Rattle.std.specs.Prelude.{if◌then◌else◌, ⊤}
 use Rattle.std.specs.FinMap as map
-use Rattle.std.specs.Str.{bytes_eq}
 use Rattle.zot_maps.proofs.Maps.{byte_order, get_elsewhere, get_here, removed_elsewhere, removed_here}
 use Rattle.zot_names.specs.Name.{IsName}
 use Rattle.zot_outside.specs.Objects.{Objects}
@@ -10,19 +9,19 @@ use Rattle.zot_contents.proofs.PathLemmas.{keeps_further}
 use Rattle.zot_contents.proofs.PromotionLemmas.{promoted_held, promoted_stands, promoted_tight}
 use Rattle.zot_contents.proofs.StandLemmas.{again_held, again_stands, decide, eq_false, eq_true, gone_held_beside, gone_held_here, gone_stands, link_held, more_held, more_line, more_stands, new_held_beside, new_held_link, new_held_whole, new_stands, own_stands, set_held_beside, set_held_link, set_held_whole, set_stands, whole_line_there, whole_no_link}
 use Rattle.zot_contents.proofs.TightLemmas.{fresh_same, tight_but_one, tight_same}
-use Rattle.zot_contents.specs.Changes.{Keeps, KeepsOthers, RecordsLinks, Sets, SetsObject, Turns, with_held}
-use Rattle.zot_contents.specs.Meaning.{IsFree, IsFresh, IsLink, IsTight, IsWhole, Links, Stands, held, line_at, object_at}
+use Rattle.zot_contents.specs.Changes.{Keeps, RecordsLinks, Sets, SetsObject, with_held}
+use Rattle.zot_contents.specs.Meaning.{IsFree, IsLink, IsWhole, Links, Stands, held, line_at, object_at}
 use Rattle.zot_contents.specs.Orders.{Begins, MayRelink, bytes_by, fresh_whole}
 use Rattle.zot_contents.specs.Promotion.{promote}
 
-with_here : (holds : List ℕ → Option (List ℕ)) (name : List ℕ) (bytes : Option (List ℕ)) (other : List ℕ) → other ≡ name → with_held holds name bytes other ≡ bytes
+pub with_here : (holds : List ℕ → Option (List ℕ)) (name : List ℕ) (bytes : Option (List ℕ)) (other : List ℕ) → other ≡ name → with_held holds name bytes other ≡ bytes
 with_here holds name bytes other is = ap (λ b. if b then bytes else holds other) (eq_true other name is)
 
-with_beside : (holds : List ℕ → Option (List ℕ)) (name : List ℕ) (bytes : Option (List ℕ)) (other : List ℕ) → other ≢ name → with_held holds name bytes other ≡ holds other
+pub with_beside : (holds : List ℕ → Option (List ℕ)) (name : List ℕ) (bytes : Option (List ℕ)) (other : List ℕ) → other ≢ name → with_held holds name bytes other ≡ holds other
 with_beside holds name bytes other apart = ap (λ b. if b then bytes else holds other) (eq_false other name apart)
 
 -- what is held where the others hold what they held
-with_one : (before after : List ℕ → Option (List ℕ)) (name : List ℕ) (bytes : Option (List ℕ)) → (IsName name → after name ≡ bytes)
+pub with_one : (before after : List ℕ → Option (List ℕ)) (name : List ℕ) (bytes : Option (List ℕ)) → (IsName name → after name ≡ bytes)
     → ((other : List ℕ) → IsName other → other ≢ name → after other ≡ before other) → (other : List ℕ) → IsName other → after other ≡ with_held before name bytes other
 with_one before after name bytes here beside other is = elim (decide other name) [
   | inl same ↦ ap after same ∙ here (subst IsName same is) ∙ sym (with_here before name bytes other same)

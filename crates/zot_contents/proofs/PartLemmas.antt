@@ -1,6 +1,6 @@
 -- What a part's calls on a digest's objects do, where it tells its objects.
-use Rattle.std.proofs.Common.{◌≡◌, ◌≢◌, ℕ, Bool, true, false, IsTrue, ◌↔◌, List, [], ◌∷◌, ◌==◌, Option, Some, None, length, refl, sym, ap, subst, ◌∙◌, IfSome, IsSome, IsNone, IsSomeAnd, arith}
-use Rattle.std.specs.Prelude.{Result, Ok, Err, OnErr, OnOk, IfOk}
+use Rattle.std.proofs.Common.{◌≡◌, ℕ, Bool, true, false, IsTrue, ◌↔◌, List, [], ◌∷◌, ◌==◌, Option, Some, None, length, refl, sym, ap, subst, ◌∙◌, IfSome, IsSomeAnd, arith}
+use Rattle.std.specs.Prelude.{Result, Ok, Err, OnErr, OnOk}
 use Rattle.std.specs.FinMap as map
 use Rattle.std.proofs.lemmas.Bool.{eqb-true}
 use Rattle.zot_digest.specs.Digest.{IsDigest}

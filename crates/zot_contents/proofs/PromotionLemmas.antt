@@ -1,5 +1,5 @@
 -- A link becomes whole: its record and its origin's bytes change, and nothing is held otherwise.
-use Rattle.std.proofs.Common.{◌≡◌, ◌≢◌, ℕ, ◌⊎◌, inl, inr, Bool, true, false, cond, List, Option, Some, None, is_some, IsSome, refl, sym, ap, subst, ◌∙◌}
+use Rattle.std.proofs.Common.{◌≡◌, ◌≢◌, ℕ, ◌⊎◌, inl, inr, true, false, List, Option, Some, None, is_some, refl, sym, ap, subst, ◌∙◌}
 use Rattle.std.specs.Prelude.{if◌then◌else◌, option_map}
 use Rattle.std.specs.FinMap as map
 use Rattle.std.specs.Str.{bytes_eq}
@@ -50,7 +50,7 @@ module _ (old new : Objects) (digest : List ℕ) (lines : List RecordLine) (link
   at_least : IsWhole later least
   at_least = is least ∙ ap (λ b. if b then Some None else if bytes_eq least name then Some (Some least) else option_map (redirect name least) (map.get links least)) (eq_true least least refl)
 
-  at_name : IsLink later name least
+  pub at_name : IsLink later name least
   at_name =
       is name ∙ ap (λ b. if b then Some None else if bytes_eq name name then Some (Some least) else option_map (redirect name least) (map.get links name)) (eq_false name least two)
       ∙ ap (λ b. if b then Some (Some least) else option_map (redirect name least) (map.get links name)) (eq_true name name refl)
@@ -69,7 +69,7 @@ module _ (old new : Objects) (digest : List ℕ) (lines : List RecordLine) (link
     ]
   ]
 
-  whole_rest : (m : List ℕ) → IsWhole links m → m ≢ name → IsWhole later m
+  pub whole_rest : (m : List ℕ) → IsWhole links m → m ≢ name → IsWhole later m
   whole_rest m is_whole second =
       at_rest m (λ e. whole_no_link links least name (subst (IsWhole links) e is_whole) link) second ∙ ap (option_map (redirect name least)) is_whole
 
@@ -111,7 +111,7 @@ module _ (old new : Objects) (digest : List ℕ) (lines : List RecordLine) (link
       record_held old new digest lines links s sets later all same_holders origin_whole other named ∙ promoted_holds other ∙ sym (held_is old digest links s other named)
 
   -- a whole holder after it is the former link, or was whole and is another
-  was_whole : (other : List ℕ) → IsWhole later other → (other ≡ least) ⊎ (IsWhole links other × (other ≢ name))
+  pub was_whole : (other : List ℕ) → IsWhole later other → (other ≡ least) ⊎ (IsWhole links other × (other ≢ name))
   was_whole other now = elim (decide other least) [
     | inl e ↦ inl e
     | inr first ↦ elim (decide other name) [

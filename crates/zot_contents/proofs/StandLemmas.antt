@@ -1,6 +1,5 @@
 -- What a digest's objects stand for after each kind of write.
-use Rattle.std.proofs.Common.{◌≡◌, ◌≢◌, ℕ, ◌⊎◌, inl, inr, Bool, true, false, cond, List, [], ◌∷◌, Option, Some, None, is_some, IsSome, refl, sym, ap, subst, ◌∙◌}
-use Rattle.std.specs.Prelude.{if◌then◌else◌, option_map}
+use Rattle.std.proofs.Common.{◌≡◌, ◌≢◌, ℕ, ◌⊎◌, inl, inr, true, false, List, Option, Some, None, is_some, IsSome, refl, sym, ap, subst, ◌∙◌}
 use Rattle.std.specs.FinMap as map
 use Rattle.std.specs.Str.{bytes_eq}
 use Rattle.std.proofs.lemmas.Bool.{false_from_ne_true, true≢false}
@@ -9,8 +8,7 @@ use Rattle.zot_maps.proofs.Maps.{byte_order, get_elsewhere, get_here, removed_el
 use Rattle.zot_names.specs.Name.{IsName}
 use Rattle.zot_outside.specs.Objects.{Objects}
 use Rattle.zot_contents.specs.Changes.{SetsObject, SetsRecord}
-use Rattle.zot_contents.specs.Meaning.{IsFree, IsLink, IsWhole, Links, Stands, held, held_by, line_among, line_at, object_at, origin_of, record_at}
-use Rattle.zot_contents.specs.Promotion.{promote, redirect}
+use Rattle.zot_contents.specs.Meaning.{IsFree, IsLink, IsWhole, Links, Stands, held, held_by, line_among, line_at, object_at, origin_of}
 use Rattle.zot_contents.specs.Records.{line_in}
 use Rattle.zot_contents.specs.declared.record_line.RecordLine.{RecordLine}
 

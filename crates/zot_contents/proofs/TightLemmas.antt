@@ -1,5 +1,5 @@
 -- Where one object changes, the whole holders stay tight if it is fresh.
-use Rattle.std.proofs.Common.{◌≡◌, ◌≢◌, ℕ, inl, inr, List, [], Option, Some, None, refl, sym, ap, subst, ◌∙◌}
+use Rattle.std.proofs.Common.{◌≡◌, ◌≢◌, ℕ, inl, inr, List, Option, Some, sym, ap, subst, ◌∙◌}
 use Rattle.zot_outside.specs.Objects.{Objects}
 use Rattle.zot_contents.proofs.StandLemmas.{decide}
 use Rattle.zot_contents.specs.Meaning.{IsFresh, IsTight, IsWhole, Links, object_at}

@@ -1,5 +1,5 @@
 -- The orders of writes over a store that tells its objects, call by call.
-use Rattle.std.proofs.Common.{◌≡◌, ◌≢◌, ℕ, List, Option, Some, None, is_some, IsSome, IfSome, refl, sym, ap, subst, ◌∙◌}
+use Rattle.std.proofs.Common.{◌≡◌, ℕ, List, Option, Some, None, is_some, IsSome, IfSome, refl, sym, ap, subst}
 use Rattle.std.specs.Prelude.{Result, Ok, Err, OnErr, ⊤}
 use Rattle.std.specs.FinMap as map
 use Rattle.std.proofs.lemmas.Bool.{true≢false}
@@ -63,7 +63,7 @@ relink_done before after digest links wanted name origin is h =
     (relinked old new digest links name bytes s origin may begins (subst (λ w. RecordsLinks old digest w new) is r))) h
 
 -- the object of a whole holder has bytes
-its_bytes : (object : Option (List ℕ)) → IsSome object → (bytes : List ℕ) × (object ≡ Some bytes)
+pub its_bytes : (object : Option (List ℕ)) → IsSome object → (bytes : List ℕ) × (object ≡ Some bytes)
 its_bytes None some = absurd (true≢false (sym some))
 its_bytes (Some bytes) some = (bytes, refl)
 

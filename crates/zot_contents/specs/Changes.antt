@@ -1,5 +1,5 @@
 -- What calls of the store change of a digest's objects.
-use Rattle.std.specs.Prelude.{◌≡◌, ◌≢◌, ℕ, ◌≤◌, Bool, true, if◌then◌else◌, List, [], Option, Some, None, Result, Ok, Err, ⊤}
+use Rattle.std.specs.Prelude.{◌≡◌, ◌≢◌, ℕ, ◌≤◌, if◌then◌else◌, List, Option, Some, None, Result, Ok, Err, ⊤}
 use Rattle.std.specs.FinMap as map
 use Rattle.std.specs.Str.{bytes_eq}
 use Rattle.zot_digest.specs.Digest.{IsDigest}
@@ -8,7 +8,7 @@ use Rattle.zot_outside.specs.Faults.{OnFailed, Rose}
 use Rattle.zot_outside.specs.Objects.{ChangesAt, Objects}
 use Rattle.zot_outside.specs.declared.stores.store_error.StoreError.{StoreError}
 use Rattle.zot_outside.specs.declared.stores.store_error.StoreError.TheVariants.{Missing, Failed, NoMemory}
-use Rattle.zot_contents.specs.Meaning.{IsFresh, IsTight, IsWhole, Links, Stands, held, object_at, record_at, record_in, record_path}
+use Rattle.zot_contents.specs.Meaning.{IsTight, Links, Stands, held, object_at, record_at, record_in, record_path}
 use Rattle.zot_contents.specs.Records.{line_in, record_of}
 use Rattle.zot_contents.specs.declared.record_line.RecordLine.{RecordLine}
 

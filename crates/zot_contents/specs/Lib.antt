@@ -3,3 +3,4 @@ pub mod Meaning
 pub mod Promotion
 pub mod Changes
 pub mod Orders
+pub mod Holding

@@ -1,10 +1,9 @@
 -- What the objects of a digest mean: what each repository holds under it.
-use Rattle.std.specs.Prelude.{◌≡◌, ◌≢◌, ℕ, List, [], ◌++◌, Option, Some, None, IsSome, option_copied, codes}
+use Rattle.std.specs.Prelude.{◌≡◌, ◌≢◌, ℕ, List, [], ◌++◌, Option, Some, None, IsSome, codes}
 use Rattle.std.specs.Coded.{Coded, coded_list, coded_option, coded_ℕ}
 use Rattle.std.specs.FinMap as map
 use Rattle.hex.specs.Hex.{encode_lower}
 use Rattle.zot_digest.specs.ByteMap.{ByteMap}
-use Rattle.zot_digest.specs.Digest.{IsDigest}
 use Rattle.zot_names.specs.Name.{IsName}
 use Rattle.zot_outside.specs.Objects.{Objects}
 use Rattle.zot_contents.specs.Records.{line_in, record_of}

@@ -1,5 +1,5 @@
 -- Holders one by one, in their order: the least link to one, and what they are after that link became whole.
-use Rattle.std.specs.Prelude.{ℕ, Bool, true, false, if◌then◌else◌, List, [], ◌∷◌, Option, Some, None, option_map}
+use Rattle.std.specs.Prelude.{ℕ, Bool, false, if◌then◌else◌, List, [], ◌∷◌, Option, Some, None, option_map}
 use Rattle.std.specs.Str.{bytes_eq}
 use Rattle.zot_contents.specs.declared.record_line.RecordLine.{RecordLine}
 

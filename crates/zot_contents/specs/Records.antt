@@ -1,5 +1,5 @@
 -- Cache records: which objects of a digest are whole, and which are links to another repository's.
-use Rattle.std.specs.Prelude.{◌≡◌, ℕ, ◌==◌, ◌&&◌, nat_le, Bool, true, false, if◌then◌else◌, List, [], ◌∷◌, ◌++◌, length, take, drop, map, reverse, Option, Some, None, IfSome, codes}
+use Rattle.std.specs.Prelude.{ℕ, ◌==◌, ◌&&◌, nat_le, Bool, true, if◌then◌else◌, List, [], ◌∷◌, ◌++◌, length, take, drop, map, reverse, Option, Some, None, IfSome, codes}
 use Rattle.std.specs.FinMap.Entries.{find}
 use Rattle.std.specs.List.{AllByRecursion, after_first, before_first, flat_map, slice_split}
 use Rattle.std.specs.List.Sorted.{IsStrictlySortedBy}

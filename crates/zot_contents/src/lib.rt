@@ -1,9 +1,12 @@
 //! The contents of digests in a store: what each repository holds under a digest, where equal bytes are one object and links to it.
 //!
-//! `read_record(alloc, bytes)` gives the lines of a cache record, and `record_text(alloc, lines)` writes them.
+//! `hold_bytes(part, alloc, digest, links, name, bytes)` sets what a repository holds under a digest, `hold_link` makes it a link to another's object, and `release` removes it. `read_record(alloc, bytes)` gives the lines of the record that says which objects are links.
 #![tactic(auto)]
 
+mod form;
+mod holding;
 mod laws;
+mod linking;
 mod links;
 mod orders;
 mod part;
@@ -12,14 +15,18 @@ mod reading;
 mod record;
 mod record_error;
 mod record_line;
+mod releasing;
 
+pub use crate::form::Form;
+pub use crate::holding::hold_bytes;
 pub use crate::laws::{
     held_elsewhere, object_calls_are_local, record_calls_are_local, what_stands_means,
 };
+pub use crate::linking::hold_link;
 pub use crate::links::{Links, Tree};
-pub use crate::orders::{add, promote, relink, remove};
-pub use crate::part::{object_is, put_object};
+pub use crate::part::object_is;
 pub use crate::reading::read_record;
 pub use crate::record::record_text;
 pub use crate::record_error::RecordError;
 pub use crate::record_line::RecordLine;
+pub use crate::releasing::release;

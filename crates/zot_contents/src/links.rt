@@ -1,6 +1,7 @@
 //! The holders of a digest.
 ghost use Rattle.std.specs.Prelude.{◌≡◌, ◌≢◌, ◌↔◌, ℕ, List, Option, Some, None, IfOk, IfSome, IsTrue, MatchOption, OnOk, OnErr, map as each, option_copied, option_map};
 ghost use Rattle.std.specs.FinMap as map;
+ghost use Rattle.zot_contents.specs.Holding.{form_in, form_of};
 ghost use Rattle.zot_contents.specs.Meaning.{IsFree, IsLink, Links};
 ghost use Rattle.zot_contents.specs.Promotion.{first_link, is_link_to, line_of_entry, promote, redirect};
 ghost use Rattle.std.specs.BTreeMap.{insert_entry};
@@ -10,6 +11,7 @@ ghost use Rattle.zot_digest.specs.ByteMap.{byte_cmp, map_of};
 ghost use Rattle.zot_contents.specs.Records.{AreLines, NamesRepos, line_in};
 ghost use Rattle.zot_names.specs.Name.{IsName};
 
+use crate::form::Form;
 use crate::record_line::RecordLine;
 use std::alloc::{AllocError, Global};
 use std::collections::BTreeMap;
@@ -51,6 +53,16 @@ impl Links {
         ensures { option_copied result ≡ map.get self.now name.now }
     {
         self.tree.get(name)
+    }
+
+    /// What a repository is among the holders.
+    pub fn form(&self, name: &RepoName) -> Form
+        ensures { result ≡ form_of (map.get self.now name.now) }
+    {
+        match self.get(name) {
+            Some(origin) => form_in(origin),
+            None => Form::Absent,
+        }
     }
 
     // Sets a holder. After an `Err` the holders are as they were.
@@ -143,6 +155,16 @@ impl Links {
         ensures all { IfOk result (λ lines. (name : List ℕ) → line_in lines.items name ≡ map.get self.now name) }
     {
         lines(alloc, &self.tree)
+    }
+}
+
+// What a holder is.
+fn form_in(origin: &Option<RepoName>) -> Form
+    ensures { result ≡ form_in origin.now }
+{
+    match origin {
+        Some(_) => Form::Link,
+        None => Form::Whole,
     }
 }
 

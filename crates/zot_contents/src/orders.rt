@@ -3,6 +3,7 @@ ghost use Rattle.std.specs.Prelude.{◌≡◌, ◌≤◌, ℕ, List, None, Some,
 ghost use Rattle.std.specs.FinMap as map;
 ghost use Rattle.zot_outside.specs.Faults.{HasStoreCause};
 ghost use Rattle.zot_contents.specs.Changes.{HasCallsCause, Keeps, Sets, Told};
+ghost use Rattle.zot_contents.specs.Holding.{Prepares};
 ghost use Rattle.zot_contents.specs.Meaning.{IsFree, IsLink, IsWhole, Stands};
 ghost use Rattle.zot_contents.specs.Orders.{Begins, MayRelink, bytes_by, fresh_whole};
 
@@ -50,6 +51,7 @@ pub fn relink<S: Store>(
         → Begins old digest.now name.now (option_copied origin.entry) bytes
         → Sets (fresh_whole (option_copied origin.entry) old digest.now links.old bytes) old digest.now links.old name.now (Some bytes) new links.new)) }
     ensures err { OnErr result (Told (S.objects part.old) (S.objects part.new) (λ old new. Stands old digest.now links.old → Keeps old digest.now links.old new links.new)) }
+    ensures links { OnOk result (links.new ≡ map.insert links.old name.now (option_copied origin.entry)) }
 {
     let wanted = links.with(alloc, name, origin)?;
     put_record(part, alloc, digest, &wanted)?;
@@ -69,6 +71,8 @@ pub fn promote<S: Store>(
     ensures cause { HasStoreCause (S.faults part.old) (S.faults part.new) result }
     ensures kept { Told (S.objects part.old) (S.objects part.new) (λ old new. Stands old digest.now links.old → IsWhole links.old name.now → IsLink links.old least.now name.now
         → Keeps old digest.now links.old new links.new) }
+    ensures prepares { OnOk result (Told (S.objects part.old) (S.objects part.new) (λ old new. Stands old digest.now links.old → IsWhole links.old name.now → IsLink links.old least.now name.now
+        → Prepares old digest.now links.old name.now new links.new)) }
 {
     let promoted = links.promoted(alloc, name, least)?;
     copy_object(part, alloc, digest, name, least)?;

@@ -1,4 +1,5 @@
 use Rattle.std.proofs.Common.{refl}
+use Rattle.zot_contents.proofs.HoldLemmas.{promote_prepares}
 use Rattle.zot_contents.proofs.WriteLemmas.{kept_where, promote_copied, promote_done}
 use Rattle.zot_contents.proofs.orders.promote.Goals as goal
 
@@ -17,3 +18,8 @@ returns-in_err-promoted-clause-kept g c = kept_where (g.S.Store.objects c.args.p
 
 pub returns-in_err-copy_object-clause-kept : goal.returns-in_err-copy_object-clause-kept
 returns-in_err-copy_object-clause-kept g c = kept_where (g.S.Store.objects c.args.part.now) (g.S.Store.objects c.copy_object.new.part) c.args.digest.now c.args.links.now _ _ c.in_err-copy_object.ensures.err
+
+pub returns-clause-prepares : goal.returns-clause-prepares
+returns-clause-prepares g c =
+    promote_prepares (g.S.Store.objects c.args.part.now) (g.S.Store.objects c.copy_object.new.part) (g.S.Store.objects c.replace_record.new.part) c.args.digest.now c.args.links.now c.in_ok-promoted.promoted
+    c.args.name.now c.args.least.now c.in_ok-promoted.ensures c.in_ok-copy_object.ensures.ok c.in_ok-replace_record.ensures.ok

@@ -1,4 +1,4 @@
-use Rattle.std.proofs.Common.{◌≡◌, ◌∙◌, subst, ap}
+use Rattle.std.proofs.Common.{◌∙◌, subst}
 use Rattle.zot_contents.proofs.PartLemmas.{ok_so, record_written}
 use Rattle.zot_contents.specs.Changes.{Told, WritesRecord}
 use Rattle.zot_contents.proofs.part.replace_record.Goals as goal

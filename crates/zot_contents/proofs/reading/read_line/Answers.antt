@@ -1,7 +1,7 @@
-use Rattle.std.proofs.Common.{◌≡◌, ◌∙◌, Result, Option, None, Some, sym, subst, ap, drop}
-use Rattle.std.specs.Prelude.{IfOk, Err}
+use Rattle.std.proofs.Common.{◌≡◌, ◌∙◌, Some, sym, subst, ap}
+use Rattle.std.specs.Prelude.{IfOk}
 use Rattle.zot_contents.proofs.LineLemmas.{link_part, no_part, whole_part}
-use Rattle.zot_contents.specs.Records.{line_of, link_line, whole_line}
+use Rattle.zot_contents.specs.Records.{link_line, whole_line}
 use Rattle.zot_contents.proofs.reading.read_line.Goals as goal
 
 pub returns-in-Some-clause-read : goal.returns-in-Some-clause-read

@@ -1,10 +1,10 @@
-use Rattle.std.proofs.Common.{◌≡◌, ◌+◌, ◌∙◌, ◌++◌, ◌==◌, [], Some, None, drop, length, ap, sym, rules, tests, arith}
+use Rattle.std.proofs.Common.{◌+◌, ◌∙◌, Some, drop, length, ap, sym, rules, tests, arith}
 use Rattle.std.specs.List.{slice_split}
 use Rattle.std.proofs.lemmas.Iterator.Consumers.{YieldsList-end, YieldsList-turn}
 use Rattle.std.proofs.lemmas.Iterator.Splits.{YieldsList-from_slice_split}
 use Rattle.std.proofs.lemmas.List.{append-nil, at_drop_all, length_push}
 use Rattle.zot_contents.specs.Records.{each_line, is_feed}
-use Rattle.zot_contents.proofs.LineLemmas.{behind, behind_none, from_none, from_part}
+use Rattle.zot_contents.proofs.LineLemmas.{behind, from_none, from_part}
 use Rattle.zot_contents.proofs.reading.read_lines.Goals as goal
 
 pub returns-in_err-read_line-clause-bad : goal.returns-in_err-read_line-clause-bad

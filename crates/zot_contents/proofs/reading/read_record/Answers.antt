@@ -1,4 +1,4 @@
-use Rattle.std.proofs.Common.{◌≡◌, ◌≢◌, ◌∙◌, List, ℕ, Result, Ok, Err, None, Some, refl, sym, ap}
+use Rattle.std.proofs.Common.{◌≡◌, ◌∙◌, None, Some, sym, ap}
 use Rattle.zot_contents.proofs.LineLemmas.{on_ok}
 use Rattle.zot_contents.proofs.RecordLemmas.{reads_again, record_is}
 use Rattle.zot_contents.specs.Records.{record_of}

@@ -1,5 +1,5 @@
-use Rattle.std.proofs.Common.{◌≡◌, ◌∙◌, [], Bool, true, false, None, Some, ap, sym, rules}
-use Rattle.zot_contents.specs.Records.{each_line, if_in_order, in_order, record_of}
+use Rattle.std.proofs.Common.{◌∙◌, [], true, false, Some, ap, sym, rules}
+use Rattle.zot_contents.specs.Records.{if_in_order, in_order, record_of}
 use Rattle.zot_contents.proofs.LineLemmas.{by_order, ended, no_feed, no_lines}
 use Rattle.zot_contents.proofs.reading.read_text.Goals as goal
 

@@ -1,4 +1,4 @@
-use Rattle.std.proofs.Common.{◌≡◌, ◌∙◌, ◌++◌, Some, sym, ap, drop, append-nil, arith}
+use Rattle.std.proofs.Common.{◌∙◌, ◌++◌, sym, ap, append-nil, arith}
 use Rattle.std.proofs.lemmas.List.{drop_all}
 use Rattle.zot_contents.proofs.RecordLemmas.{reads_again}
 use Rattle.zot_contents.specs.Records.{record_of, record_text}
