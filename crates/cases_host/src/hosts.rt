@@ -3,7 +3,7 @@ use std::alloc::Global;
 use zot_fakes::HandClock;
 use zot_host::{Host, HostError, HostResult};
 
-/// A host whose every call for a file fails.
+/// A host whose every call for a file fails. It tells its moment.
 #[derive(Drop)]
 pub struct FaultyHost {
     faults: u64,
@@ -17,13 +17,13 @@ impl FaultyHost {
 }
 
 impl Host for FaultyHost {
-    ghost use Rattle.std.specs.Prelude.{None};
+    ghost use Rattle.std.specs.Prelude.{None, Some};
 
     type T = HandClock;
 
     ghost files = { λ _. None };
 
-    ghost moment = { λ _. None };
+    ghost moment = { λ _. Some 7 };
 
     ghost faults = { λ h. h.faults };
 
