@@ -9,7 +9,7 @@ mod writes;
 use std::io;
 use std::process::ExitCode;
 use zot_cases::{Answer, Case, run};
-use zot_contents::{
+use zot_links::{
     held_elsewhere, object_calls_are_local, record_calls_are_local, what_stands_means,
 };
 

@@ -1,6 +1,6 @@
 //! Cache records.
 use zot_cases::{Answer, number};
-use zot_contents::{RecordLine, read_record, record_text};
+use zot_links::{RecordLine, read_record, record_text};
 
 /// The lines of a record, or that the bytes are none. The text of the lines has to be these bytes.
 pub fn record(answer: &mut Answer, given: &str) {

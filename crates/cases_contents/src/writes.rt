@@ -1,6 +1,6 @@
 //! Orders of writes on the objects of a digest, over a store in memory.
 use zot_cases::{Answer, cut, word};
-use zot_contents::{Links, hold_bytes, hold_link, object_is, release};
+use zot_links::{Links, hold_bytes, hold_link, object_is, release};
 use zot_digest::{Digest, digest_of};
 use zot_fakes::MemoryStore;
 use zot_names::RepoName;
