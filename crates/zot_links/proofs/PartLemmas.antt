@@ -1,14 +1,11 @@
 -- What a part's calls on a digest's objects do, where it tells its objects.
-use Rattle.std.proofs.Common.{◌≡◌, ℕ, Bool, true, false, IsTrue, ◌↔◌, List, [], ◌∷◌, ◌==◌, Option, Some, None, length, refl, sym, ap, subst, ◌∙◌, IfSome, IsSomeAnd, arith}
+use Rattle.std.proofs.Common.{◌≡◌, ℕ, Bool, true, false, IsTrue, ◌↔◌, List, [], ◌∷◌, ◌==◌, Option, Some, None, length, refl, sym, ap, subst, ◌∙◌, IfSome, IsSome, IsSomeAnd, is_some, arith}
 use Rattle.std.specs.Prelude.{Result, Ok, Err, OnErr, OnOk}
 use Rattle.std.specs.FinMap as map
 use Rattle.std.proofs.lemmas.Bool.{eqb-true}
 use Rattle.zot_digest.specs.Digest.{IsDigest}
 use Rattle.zot_outside.specs.Objects.{ChangesAt, Copies, IsMissing, Objects, Puts}
-use Rattle.zot_outside.specs.Faults.{OnMissing}
 use Rattle.zot_outside.specs.Whole.{HasObject}
-use Rattle.zot_outside.specs.declared.stores.store_error.StoreError.{StoreError}
-use Rattle.zot_outside.specs.declared.stores.store_error.StoreError.TheVariants.{Missing, Failed, NoMemory}
 use Rattle.zot_links.proofs.PathLemmas.{sets_object, sets_record}
 use Rattle.zot_links.proofs.ToldLemmas.{told_copies, told_puts, told_so}
 use Rattle.zot_links.specs.Changes.{RecordsLinks, SetsObject, Told, WritesRecord}
@@ -57,19 +54,14 @@ object_copies before after digest from to source path is at on h =
     (sets_object old new digest to (Some k.0) is (subst (λ p. ChangesAt old p (Some k.0) new) on k.2)))
     (told_copies before after source path h)
 
-missing_object : (objects : Objects) (digest name path : List ℕ) → path ≡ object_path digest name → map.get objects path ≡ None → object_at objects digest name ≡ None
+there_object : (objects : Objects) (digest name path : List ℕ) → path ≡ object_path digest name → IsSome (object_at objects digest name) → IsSome (map.get objects path)
 unfolding object_at
-missing_object objects digest name path at none = ap (map.get objects) (sym at) ∙ none
+there_object objects digest name path at there = ap (λ p. is_some (map.get objects p)) at ∙ there
 
-pub source_missing : (objects : Option Objects) (digest name path : List ℕ) → path ≡ object_path digest name → IsMissing objects path → IfSome objects (λ told. object_at told digest name ≡ None)
-source_missing None digest name path at missing = tt
-source_missing (Some told) digest name path at missing = missing_object told digest name path at missing
-
-pub missing_so : {T : Type 0} (r : Result T StoreError) (P Q : Type 0) → (P → Q) → OnMissing r P → OnMissing r Q
-missing_so (Ok x) P Q f h = tt
-missing_so (Err Missing) P Q f h = f h
-missing_so (Err Failed) P Q f h = tt
-missing_so (Err NoMemory) P Q f h = tt
+pub source_there : (objects : Option Objects) (digest name path : List ℕ) → path ≡ object_path digest name → IfSome objects (λ told. IsSome (object_at told digest name))
+    → IfSome objects (λ told. IsSome (map.get told path))
+source_there None digest name path at there = tt
+source_there (Some told) digest name path at there = there_object told digest name path at there
 
 -- ---- objects compared with bytes
 

@@ -1,5 +1,5 @@
 -- What the objects of a digest mean: what each repository holds under it.
-use Rattle.std.specs.Prelude.{◌≡◌, ◌≢◌, ℕ, List, [], ◌++◌, Option, Some, None, IsSome, codes}
+use Rattle.std.specs.Prelude.{◌≡◌, ◌≢◌, ℕ, List, [], ◌++◌, Option, Some, None, IfSome, IsSome, codes}
 use Rattle.std.specs.Coded.{Coded, coded_list, coded_option, coded_ℕ}
 use Rattle.std.specs.FinMap as map
 use Rattle.hex.specs.Hex.{encode_lower}
@@ -90,6 +90,10 @@ pub record Stands (objects : Objects) (digest : List ℕ) (links : Links) : Type
   pub origins : (name : List ℕ) → IsSome (map.get links name) → origin_of (line_at objects digest name) ≡ origin_of (map.get links name)
   pub whole : (name origin : List ℕ) → IsLink links name origin → IsWhole links origin
   pub named : (name origin : List ℕ) → IsLink links name origin → line_at objects digest origin ≡ Some None
+
+-- the same, where the objects are told
+abbrev pub StandsWhereTold : Option Objects → List ℕ → Links → Type 0
+StandsWhereTold objects digest links = IfSome objects (λ told. Stands told digest links)
 
 -- of the whole holders no two have equal bytes, but for none
 abbrev pub IsTight : Objects → List ℕ → Links → Type 0

@@ -1,9 +1,9 @@
 //! A repository gets bytes of its own.
 ghost use Rattle.std.specs.Prelude.{◌≡◌, OnErr, OnOk, Some};
-ghost use Rattle.zot_outside.specs.Faults.{HasStoreCause};
+ghost use Rattle.zot_outside.specs.Faults.{HasStoreCause, OnMissing};
 ghost use Rattle.zot_links.specs.Changes.{Keeps, Sets, Told};
 ghost use Rattle.zot_links.specs.Holding.{GetsBytes, IsLinked, Prepares};
-ghost use Rattle.zot_links.specs.Meaning.{IsFresh, IsWhole, Stands};
+ghost use Rattle.zot_links.specs.Meaning.{IsFresh, IsWhole, Stands, StandsWhereTold};
 
 use crate::form::Form;
 use crate::links::Links;
@@ -23,10 +23,12 @@ pub fn hold_bytes<S: Store>(
     name: &RepoName,
     bytes: &[u8],
 ) -> StoreResult<()>
+    requires stands { StandsWhereTold (S.objects part.old) digest.now links.old }
     ensures cause { HasStoreCause (S.faults part.old) (S.faults part.new) result }
     ensures ok { OnOk result (Told (S.objects part.old) (S.objects part.new) (λ old new. Stands old digest.now links.old
         → Sets (IsFresh old digest.now links.old bytes.now) old digest.now links.old name.now (Some bytes.now) new links.new)) }
     ensures err { OnErr result (Told (S.objects part.old) (S.objects part.new) (λ old new. Stands old digest.now links.old → Keeps old digest.now links.old new links.new)) }
+    ensures missing { OnMissing result ⊥ }
 {
     prepare(part, alloc, digest, links, name)?;
     write_bytes(part, alloc, digest, links, name, bytes)
@@ -40,9 +42,11 @@ pub fn prepare<S: Store>(
     links: &mut Links,
     name: &RepoName,
 ) -> StoreResult<()>
+    requires stands { StandsWhereTold (S.objects part.old) digest.now links.old }
     ensures cause { HasStoreCause (S.faults part.old) (S.faults part.new) result }
     ensures ok { OnOk result (Told (S.objects part.old) (S.objects part.new) (λ old new. Stands old digest.now links.old → Prepares old digest.now links.old name.now new links.new)) }
     ensures err { OnErr result (Told (S.objects part.old) (S.objects part.new) (λ old new. Stands old digest.now links.old → Keeps old digest.now links.old new links.new)) }
+    ensures missing { OnMissing result ⊥ }
 {
     match links.form(name) {
         Form::Whole => free(part, alloc, digest, links, name),
@@ -59,11 +63,13 @@ fn free<S: Store>(
     links: &mut Links,
     name: &RepoName,
 ) -> StoreResult<()>
+    requires stands { StandsWhereTold (S.objects part.old) digest.now links.old }
     ensures cause { HasStoreCause (S.faults part.old) (S.faults part.new) result }
     ensures ok { OnOk result (Told (S.objects part.old) (S.objects part.new) (λ old new. Stands old digest.now links.old → IsWhole links.old name.now
         → Prepares old digest.now links.old name.now new links.new)) }
     ensures err { OnErr result (Told (S.objects part.old) (S.objects part.new) (λ old new. Stands old digest.now links.old → IsWhole links.old name.now
         → Keeps old digest.now links.old new links.new)) }
+    ensures missing { OnMissing result ⊥ }
 {
     let Some(least) = links.least_link(name) else {
         return Ok(());
@@ -84,6 +90,7 @@ fn write_bytes<S: Store>(
     ensures cause { HasStoreCause (S.faults part.old) (S.faults part.new) result }
     ensures ok { OnOk result (Told (S.objects part.old) (S.objects part.new) (λ old new. GetsBytes digest.now links.old name.now bytes.now links.new old new)) }
     ensures err { OnErr result (Told (S.objects part.old) (S.objects part.new) (λ old new. Stands old digest.now links.old → Keeps old digest.now links.old new links.new)) }
+    ensures missing { OnMissing result ⊥ }
 {
     match links.form(name) {
         Form::Absent => add(part, alloc, digest, links, name, None, bytes),
@@ -106,6 +113,7 @@ fn make_whole<S: Store>(
         → Sets (IsFresh old digest.now links.old bytes.now) old digest.now links.old name.now (Some bytes.now) new links.new)) }
     ensures err { OnErr result (Told (S.objects part.old) (S.objects part.new) (λ old new. Stands old digest.now links.old → IsLinked links.old name.now
         → Keeps old digest.now links.old new links.new)) }
+    ensures missing { OnMissing result ⊥ }
 {
     put_object(part, alloc, digest, name, bytes)?;
     relink(part, alloc, digest, links, name, None)

@@ -1,8 +1,9 @@
 //! A repository gets a link to another.
 ghost use Rattle.std.specs.Prelude.{◌≡◌, ◌≤◌, ℕ, List, OnErr, OnOk, Some, ⊤};
+ghost use Rattle.zot_outside.specs.Faults.{OnMissing};
 ghost use Rattle.zot_links.specs.Changes.{HasCallsCause, Keeps, Sets, Told};
 ghost use Rattle.zot_links.specs.Holding.{GetsLink, HasOrigin, IsLinked};
-ghost use Rattle.zot_links.specs.Meaning.{IsFree, IsWhole, Links, Stands};
+ghost use Rattle.zot_links.specs.Meaning.{IsFree, IsWhole, Links, Stands, StandsWhereTold};
 
 use crate::form::Form;
 use crate::holding::prepare;
@@ -23,10 +24,12 @@ pub fn hold_link<S: Store>(
     name: &RepoName,
     origin: &RepoName,
 ) -> StoreResult<()>
+    requires stands { StandsWhereTold (S.objects part.old) digest.now links.old }
     ensures cause { HasCallsCause (S.faults part.old) (S.faults part.new) result }
     ensures ok { OnOk result (Told (S.objects part.old) (S.objects part.new) (λ old new. (bytes : List ℕ) → Stands old digest.now links.old
         → HasOrigin old digest.now links.old name.now origin.now bytes → Sets ⊤ old digest.now links.old name.now (Some bytes) new links.new)) }
     ensures err { OnErr result (Told (S.objects part.old) (S.objects part.new) (λ old new. Stands old digest.now links.old → Keeps old digest.now links.old new links.new)) }
+    ensures missing { OnMissing result ⊥ }
 {
     prepare(part, alloc, digest, links, name)?;
     write_link(part, alloc, digest, links, name, origin)
@@ -44,6 +47,7 @@ fn write_link<S: Store>(
     ensures cause { HasCallsCause (S.faults part.old) (S.faults part.new) result }
     ensures ok { OnOk result (Told (S.objects part.old) (S.objects part.new) (λ old new. GetsLink digest.now links.old name.now origin.now links.new old new)) }
     ensures err { OnErr result (Told (S.objects part.old) (S.objects part.new) (λ old new. Stands old digest.now links.old → Keeps old digest.now links.old new links.new)) }
+    ensures missing { OnMissing result ⊥ }
 {
     match links.form(name) {
         Form::Absent => add(part, alloc, digest, links, name, Some(origin), b""),
@@ -65,6 +69,7 @@ fn make_link<S: Store>(
     ensures ok { OnOk result (Told (S.objects part.old) (S.objects part.new) (λ old new. (bytes : List ℕ) → Stands old digest.now links.old → IsWhole links.old name.now
         → IsFree links.old name.now → HasOrigin old digest.now links.old name.now origin.now bytes → Sets ⊤ old digest.now links.old name.now (Some bytes) new links.new)) }
     ensures err { OnErr result (Told (S.objects part.old) (S.objects part.new) (λ old new. Stands old digest.now links.old → Keeps old digest.now links.old new links.new)) }
+    ensures missing { OnMissing result ⊥ }
 {
     relink(part, alloc, digest, links, name, Some(origin))?;
     empty_object(part, alloc, digest, name);

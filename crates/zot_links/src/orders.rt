@@ -1,10 +1,10 @@
 //! The orders of writes that change what one repository holds under a digest. Each has one call that decides: a refusal before it leaves all that is held, and one behind it leaves a stale line or bytes that nobody reads.
-ghost use Rattle.std.specs.Prelude.{◌≡◌, ◌≤◌, ℕ, List, None, Some, IfSome, OnErr, OnOk, option_copied, ⊤};
+ghost use Rattle.std.specs.Prelude.{◌≡◌, ◌≤◌, ℕ, List, None, Some, IfSome, IsSome, OnErr, OnOk, option_copied, ⊤};
 ghost use Rattle.std.specs.FinMap as map;
-ghost use Rattle.zot_outside.specs.Faults.{HasStoreCause};
+ghost use Rattle.zot_outside.specs.Faults.{HasStoreCause, OnMissing};
 ghost use Rattle.zot_links.specs.Changes.{HasCallsCause, Keeps, Sets, Told};
 ghost use Rattle.zot_links.specs.Holding.{Prepares};
-ghost use Rattle.zot_links.specs.Meaning.{IsFree, IsLink, IsWhole, Stands};
+ghost use Rattle.zot_links.specs.Meaning.{IsFree, IsLink, IsWhole, Stands, object_at};
 ghost use Rattle.zot_links.specs.Orders.{Begins, MayRelink, bytes_by, fresh_whole};
 
 use crate::links::Links;
@@ -29,6 +29,7 @@ pub fn add<S: Store>(
         → Sets (fresh_whole (option_copied origin.entry) old digest.now links.old bytes.now) old digest.now links.old name.now
         (bytes_by old digest.now (option_copied origin.entry) bytes.now) new links.new)) }
     ensures err { OnErr result (Told (S.objects part.old) (S.objects part.new) (λ old new. Stands old digest.now links.old → map.get links.old name.now ≡ None → Keeps old digest.now links.old new links.new)) }
+    ensures missing { OnMissing result ⊥ }
 {
     let wanted = links.with(alloc, name, origin)?;
     put_record(part, alloc, digest, &wanted)?;
@@ -52,6 +53,7 @@ pub fn relink<S: Store>(
         → Sets (fresh_whole (option_copied origin.entry) old digest.now links.old bytes) old digest.now links.old name.now (Some bytes) new links.new)) }
     ensures err { OnErr result (Told (S.objects part.old) (S.objects part.new) (λ old new. Stands old digest.now links.old → Keeps old digest.now links.old new links.new)) }
     ensures links { OnOk result (links.new ≡ map.insert links.old name.now (option_copied origin.entry)) }
+    ensures missing { OnMissing result ⊥ }
 {
     let wanted = links.with(alloc, name, origin)?;
     put_record(part, alloc, digest, &wanted)?;
@@ -68,11 +70,13 @@ pub fn promote<S: Store>(
     name: &RepoName,
     least: &RepoName,
 ) -> StoreResult<()>
+    requires { IfSome (S.objects part.old) (λ told. IsSome (object_at told digest.now name.now)) }
     ensures cause { HasStoreCause (S.faults part.old) (S.faults part.new) result }
     ensures kept { Told (S.objects part.old) (S.objects part.new) (λ old new. Stands old digest.now links.old → IsWhole links.old name.now → IsLink links.old least.now name.now
         → Keeps old digest.now links.old new links.new) }
     ensures prepares { OnOk result (Told (S.objects part.old) (S.objects part.new) (λ old new. Stands old digest.now links.old → IsWhole links.old name.now → IsLink links.old least.now name.now
         → Prepares old digest.now links.old name.now new links.new)) }
+    ensures missing { OnMissing result ⊥ }
 {
     let promoted = links.promoted(alloc, name, least)?;
     copy_object(part, alloc, digest, name, least)?;
@@ -92,6 +96,7 @@ pub fn remove<S: Store>(
     ensures cause { HasCallsCause (S.faults part.old) (S.faults part.new) result }
     ensures ok { OnOk result (Told (S.objects part.old) (S.objects part.new) (λ old new. Stands old digest.now links.old → IsFree links.old name.now → Sets ⊤ old digest.now links.old name.now None new links.new)) }
     ensures err { OnErr result (Told (S.objects part.old) (S.objects part.new) (λ old new. Stands old digest.now links.old → Keeps old digest.now links.old new links.new)) }
+    ensures missing { OnMissing result ⊥ }
 {
     let left = links.without(alloc, name)?;
     delete_object(part, alloc, digest, name)?;

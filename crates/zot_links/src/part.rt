@@ -1,8 +1,8 @@
 //! The calls of a store on the objects of a digest.
-ghost use Rattle.std.specs.Prelude.{◌≡◌, ◌↔◌, true, None, Some, IfOk, IfSome, IsTrue, OnErr, OnOk};
+ghost use Rattle.std.specs.Prelude.{◌≡◌, ◌↔◌, true, None, Some, IfOk, IfSome, IsSome, IsTrue, OnErr, OnOk};
 ghost use Rattle.zot_outside.specs.Faults.{HasStoreCause, OnMissing};
 ghost use Rattle.std.specs.FinMap as map;
-ghost use Rattle.zot_outside.specs.Objects.{ChangesAt};
+ghost use Rattle.zot_outside.specs.Objects.{ChangesAt, Copies};
 ghost use Rattle.zot_links.specs.Changes.{RecordsLinks, SaysLinks, SetsObject, Told, WritesRecord};
 ghost use Rattle.zot_links.specs.Meaning.{object_at, record_in};
 ghost use Rattle.zot_links.specs.Records.{record_of};
@@ -13,7 +13,7 @@ use crate::record::record_text;
 use std::alloc::{AllocError, Global};
 use zot_digest::Digest;
 use zot_names::RepoName;
-use zot_outside::{Store, StoreError, StoreResult, has_bytes};
+use zot_outside::{Store, StoreError, StoreResult, contradicted, has_bytes};
 
 /// Sets the object of a repository.
 pub fn put_object<S: Store>(
@@ -26,6 +26,7 @@ pub fn put_object<S: Store>(
     ensures cause { HasStoreCause (S.faults part.old) (S.faults part.new) result }
     ensures ok { OnOk result (Told (S.objects part.old) (S.objects part.new) (λ old new. SetsObject old digest.now name.now (Some bytes.now) new)) }
     ensures err { OnErr result (S.objects part.new ≡ S.objects part.old) }
+    ensures missing { OnMissing result ⊥ }
 {
     let path = object_path(alloc, digest, name)?;
     part.put(alloc, path.as_str(), bytes)
@@ -41,6 +42,7 @@ pub fn delete_object<S: Store>(
     ensures cause { HasStoreCause (S.faults part.old) (S.faults part.new) result }
     ensures ok { OnOk result (Told (S.objects part.old) (S.objects part.new) (λ old new. SetsObject old digest.now name.now None new)) }
     ensures err { OnErr result (S.objects part.new ≡ S.objects part.old) }
+    ensures missing { OnMissing result ⊥ }
 {
     let path = object_path(alloc, digest, name)?;
     delete_at(part, alloc, path.as_str())
@@ -51,6 +53,7 @@ fn delete_at<S: Store>(part: &mut S, alloc: Global, path: &str) -> StoreResult<(
     ensures cause { HasStoreCause (S.faults part.old) (S.faults part.new) result }
     ensures ok { OnOk result (Told (S.objects part.old) (S.objects part.new) (λ old new. ChangesAt old path.now None new)) }
     ensures err { OnErr result (S.objects part.new ≡ S.objects part.old) }
+    ensures missing { OnMissing result ⊥ }
 {
     match part.delete(alloc, path) {
         Err(StoreError::Missing) => Ok(()),
@@ -58,7 +61,7 @@ fn delete_at<S: Store>(part: &mut S, alloc: Global, path: &str) -> StoreResult<(
     }
 }
 
-/// Sets the object of one repository to that of another.
+/// Sets the object of one repository to that of another, which has one. A store whose answers contradict each other has failed.
 pub fn copy_object<S: Store>(
     part: &mut S,
     alloc: Global,
@@ -66,14 +69,30 @@ pub fn copy_object<S: Store>(
     from: &RepoName,
     to: &RepoName,
 ) -> StoreResult<()>
+    requires { IfSome (S.objects part.old) (λ told. IsSome (object_at told digest.now from.now)) }
     ensures cause { HasStoreCause (S.faults part.old) (S.faults part.new) result }
     ensures ok { OnOk result (Told (S.objects part.old) (S.objects part.new) (λ old new. SetsObject old digest.now to.now (object_at old digest.now from.now) new)) }
     ensures err { OnErr result (S.objects part.new ≡ S.objects part.old) }
-    ensures missing { OnMissing result (IfSome (S.objects part.old) (λ told. object_at told digest.now from.now ≡ None)) }
+    ensures missing { OnMissing result ⊥ }
 {
     let source = object_path(alloc, digest, from)?;
     let path = object_path(alloc, digest, to)?;
-    part.copy(alloc, source.as_str(), path.as_str())
+    copy_at(part, alloc, source.as_str(), path.as_str())
+}
+
+// Sets the object at a path to that at another, which has one.
+fn copy_at<S: Store>(part: &mut S, alloc: Global, from: &str, to: &str) -> StoreResult<()>
+    requires { IfSome (S.objects part.old) (λ told. IsSome (map.get told from.now)) }
+    ensures cause { HasStoreCause (S.faults part.old) (S.faults part.new) result }
+    ensures ok { OnOk result (Copies (S.objects part.old) from.now to.now (S.objects part.new)) }
+    ensures err { OnErr result (S.objects part.new ≡ S.objects part.old) }
+    ensures missing { OnMissing result ⊥ }
+{
+    match part.copy(alloc, from, to) {
+        Ok(()) => Ok(()),
+        Err(StoreError::Missing) => Err(contradicted(part)),
+        Err(error) => Err(error),
+    }
 }
 
 /// Whether the object of a repository is there and has exactly these bytes. It is read in pieces of at most 65,536 bytes.
@@ -87,6 +106,7 @@ pub fn object_is<S: Store>(
     ensures cause { HasStoreCause (S.faults part.old) (S.faults part.new) result }
     ensures kept { S.objects part.new ≡ S.objects part.old }
     ensures ok { IfOk result (λ same. IfSome (S.objects part.old) (λ told. IsTrue same ↔ (object_at told digest.now name.now ≡ Some bytes.now))) }
+    ensures missing { OnMissing result ⊥ }
 {
     let path = object_path(alloc, digest, name)?;
     is_at(part, alloc, path.as_str(), bytes)
@@ -97,6 +117,7 @@ fn is_at<S: Store>(part: &mut S, alloc: Global, path: &str, bytes: &[u8]) -> Sto
     ensures cause { HasStoreCause (S.faults part.old) (S.faults part.new) result }
     ensures kept { S.objects part.new ≡ S.objects part.old }
     ensures ok { IfOk result (λ same. IfSome (S.objects part.old) (λ told. IsTrue same ↔ (map.get told path.now ≡ Some bytes.now))) }
+    ensures missing { OnMissing result ⊥ }
 {
     match has_bytes(part, alloc, path, bytes) {
         Err(StoreError::Missing) => Ok(false),
@@ -114,6 +135,7 @@ pub fn put_record<S: Store>(
     ensures cause { HasStoreCause (S.faults part.old) (S.faults part.new) result }
     ensures ok { OnOk result (Told (S.objects part.old) (S.objects part.new) (λ old new. RecordsLinks old digest.now links.now new)) }
     ensures err { OnErr result (S.objects part.new ≡ S.objects part.old) }
+    ensures missing { OnMissing result ⊥ }
 {
     let text = text_of(alloc, links)?;
     let path = record_path(alloc, digest)?;
@@ -136,6 +158,7 @@ fn record_is<S: Store>(part: &mut S, alloc: Global, path: &str, text: &[u8]) -> 
     ensures cause { HasStoreCause (S.faults part.old) (S.faults part.new) result }
     ensures kept { S.objects part.new ≡ S.objects part.old }
     ensures ok { IfOk result (λ same. IfSome (S.objects part.old) (λ told. same ≡ true → record_in (map.get told path.now) ≡ record_of text.now)) }
+    ensures missing { OnMissing result ⊥ }
 {
     match has_bytes(part, alloc, path, text) {
         Err(StoreError::Missing) => Ok(text.is_empty()),
@@ -148,6 +171,7 @@ fn write_record<S: Store>(part: &mut S, alloc: Global, path: &str, text: &[u8]) 
     ensures cause { HasStoreCause (S.faults part.old) (S.faults part.new) result }
     ensures ok { OnOk result (Told (S.objects part.old) (S.objects part.new) (λ old new. WritesRecord old path.now text.now new)) }
     ensures err { OnErr result (S.objects part.new ≡ S.objects part.old) }
+    ensures missing { OnMissing result ⊥ }
 {
     if text.is_empty() {
         delete_at(part, alloc, path)
@@ -166,6 +190,7 @@ pub fn replace_record<S: Store>(
     ensures cause { HasStoreCause (S.faults part.old) (S.faults part.new) result }
     ensures ok { OnOk result (Told (S.objects part.old) (S.objects part.new) (λ old new. RecordsLinks old digest.now links.now new)) }
     ensures err { OnErr result (S.objects part.new ≡ S.objects part.old) }
+    ensures missing { OnMissing result ⊥ }
 {
     let text = text_of(alloc, links)?;
     let path = record_path(alloc, digest)?;

@@ -1,9 +1,10 @@
 //! A repository gives up what it holds.
 ghost use Rattle.std.specs.Prelude.{◌≡◌, true, IfOk, None, OnErr, OnOk, ⊤};
 ghost use Rattle.zot_names.specs.Name.{IsName};
+ghost use Rattle.zot_outside.specs.Faults.{OnMissing};
 ghost use Rattle.zot_links.specs.Changes.{HasCallsCause, Keeps, Sets, Told};
 ghost use Rattle.zot_links.specs.Holding.{MayChange, Releases};
-ghost use Rattle.zot_links.specs.Meaning.{IsFree, Stands};
+ghost use Rattle.zot_links.specs.Meaning.{IsFree, Stands, StandsWhereTold};
 
 use crate::form::Form;
 use crate::holding::prepare;
@@ -22,9 +23,11 @@ pub fn release<S: Store>(
     links: &mut Links,
     name: &RepoName,
 ) -> StoreResult<bool>
+    requires stands { StandsWhereTold (S.objects part.old) digest.now links.old }
     ensures cause { HasCallsCause (S.faults part.old) (S.faults part.new) result }
     ensures ok { IfOk result (λ was. Told (S.objects part.old) (S.objects part.new) (λ old new. Stands old digest.now links.old → Releases was old digest.now links.old name.now new links.new)) }
     ensures err { OnErr result (Told (S.objects part.old) (S.objects part.new) (λ old new. Stands old digest.now links.old → Keeps old digest.now links.old new links.new)) }
+    ensures missing { OnMissing result ⊥ }
 {
     prepare(part, alloc, digest, links, name)?;
     release_now(part, alloc, digest, links, name)
@@ -43,6 +46,7 @@ fn release_now<S: Store>(
         → Releases was old digest.now links.old name.now new links.new)) }
     ensures err { OnErr result (Told (S.objects part.old) (S.objects part.new) (λ old new. Stands old digest.now links.old → Keeps old digest.now links.old new links.new)) }
     ensures name { IsName name.now }
+    ensures missing { OnMissing result ⊥ }
 {
     let _ = name.as_slice();
     match links.form(name) {
@@ -64,6 +68,7 @@ fn remove_holder<S: Store>(
     ensures answer { IfOk result (λ was. was ≡ true) }
     ensures ok { OnOk result (Told (S.objects part.old) (S.objects part.new) (λ old new. Stands old digest.now links.old → IsFree links.old name.now → Sets ⊤ old digest.now links.old name.now None new links.new)) }
     ensures err { OnErr result (Told (S.objects part.old) (S.objects part.new) (λ old new. Stands old digest.now links.old → Keeps old digest.now links.old new links.new)) }
+    ensures missing { OnMissing result ⊥ }
 {
     remove(part, alloc, digest, links, name)?;
     Ok(true)

@@ -16,7 +16,7 @@ pub use crate::gates::{Gate, OpenGate, Point};
 pub use crate::sockets::{Accepted, BindError, Listener, TcpListeners};
 pub use crate::stores::{
     Parts, PathWalk, Store, StoreError, StoreResult, append_changes, calls_join,
-    calls_leave_others, change_is_one, copy_changes, delete_changes, has_bytes, listed_as_held,
-    listing_ends, next_lists, put_changes, read_whole,
+    calls_leave_others, change_is_one, contradicted, copy_changes, delete_changes, has_bytes,
+    listed_as_held, listing_ends, next_lists, put_changes, read_whole,
 };
 pub use crate::streams::{ReaderSource, Sink, Source, WriterSink};

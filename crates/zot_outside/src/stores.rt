@@ -15,4 +15,4 @@ pub use self::parts::Parts;
 pub use self::path_walk::PathWalk;
 pub use self::store::Store;
 pub use self::store_error::{StoreError, StoreResult};
-pub use self::whole::{has_bytes, read_whole};
+pub use self::whole::{contradicted, has_bytes, read_whole};
