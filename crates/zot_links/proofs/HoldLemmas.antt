@@ -158,7 +158,7 @@ with_absent before after Q digest links name absent h =
 -- a fact of the same objects, where they stand
 pub still : (before : Option Objects) (digest : List ℕ) (links : Links) (Q : Objects → Objects → Type 0) → ((objects : Objects) → Stands objects digest links → Q objects objects)
     → Told before before (λ old new. Stands old digest links → Q old new)
-still None digest links Q f = tt
+still None digest links Q f = refl
 still (Some old) digest links Q f = f old
 
 pub prepared_still : (before : Option Objects) (digest : List ℕ) (links : Links) (name : List ℕ) → MayChange links name → Told before before (λ old new. Stands old digest links → Prepares old digest links name new links)

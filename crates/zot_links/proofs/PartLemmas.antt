@@ -36,7 +36,7 @@ module _ (before after : Option Objects) (digest name path : List ℕ) (is : IsD
       (λ old new k. sets_object old new digest name None is (subst (λ p. ChangesAt old p None new) at k)) h
 
 still_gone : (before : Option Objects) (path : List ℕ) → IsMissing before path → Told before before (λ old new. ChangesAt old path None new)
-still_gone None path missing = tt
+still_gone None path missing = refl
 still_gone (Some old) path missing = unchanged old path None missing
 
 pub path_gone : (before after : Option Objects) (path : List ℕ) → IsMissing before path → after ≡ before → Told before after (λ old new. ChangesAt old path None new)
@@ -130,7 +130,7 @@ module _ (digest path text : List ℕ) (lines : List RecordLine) (links : Links)
       (λ old new k. (lines, all, sets_record old new digest k.0 lines is (k.1 ∙ reads) (subst (λ p. ChangesAt old p k.0 new) at k.2))) h
 
   stands_so : (before : Option Objects) → IfSome before (λ told. record_in (map.get told path) ≡ record_of text) → Told before before (λ old new. RecordsLinks old digest links new)
-  stands_so None h = tt
+  stands_so None h = refl
   stands_so (Some old) h =
       (lines, all, sets_record old old digest (map.get old path) lines is (h ∙ reads) (subst (λ p. ChangesAt old p (map.get old path) old) at (unchanged old path (map.get old path) refl)))
 

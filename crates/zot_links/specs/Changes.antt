@@ -12,9 +12,9 @@ use Rattle.zot_links.specs.Meaning.{IsTight, Links, Stands, held, object_at, rec
 use Rattle.zot_links.specs.Records.{line_in, record_of}
 use Rattle.zot_links.specs.declared.record_line.RecordLine.{RecordLine}
 
--- a fact of the objects before and after, where they are told; a store that tells them before does so after
+-- a fact of the objects before and after, where they are told; a store tells them after as it did before
 abbrev pub Told : Option Objects → Option Objects → (Objects → Objects → Type 0) → Type 0
-Told None after P = ⊤
+Told None after P = after ≡ None
 Told (Some old) None P = ⊥
 Told (Some old) (Some new) P = P old new
 
