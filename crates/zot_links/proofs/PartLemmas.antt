@@ -54,7 +54,7 @@ object_copies before after digest from to source path is at on h =
     (sets_object old new digest to (Some k.0) is (subst (λ p. ChangesAt old p (Some k.0) new) on k.2)))
     (told_copies before after source path h)
 
-there_object : (objects : Objects) (digest name path : List ℕ) → path ≡ object_path digest name → IsSome (object_at objects digest name) → IsSome (map.get objects path)
+pub there_object : (objects : Objects) (digest name path : List ℕ) → path ≡ object_path digest name → IsSome (object_at objects digest name) → IsSome (map.get objects path)
 unfolding object_at
 there_object objects digest name path at there = ap (λ p. is_some (map.get objects p)) at ∙ there
 

@@ -14,7 +14,7 @@ use Rattle.zot_links.specs.Holding.{IsLinked, MayChange, Prepares, Releases}
 use Rattle.zot_links.specs.Meaning.{IsFree, IsWhole, Links, Stands, held, held_by, object_at, origin_of}
 
 -- what is no holder holds nothing
-absent_held : (objects : Objects) (digest : List ℕ) (links : Links) (name : List ℕ) → Stands objects digest links → IsName name → map.get links name ≡ None → held objects digest name ≡ None
+pub absent_held : (objects : Objects) (digest : List ℕ) (links : Links) (name : List ℕ) → Stands objects digest links → IsName name → map.get links name ≡ None → held objects digest name ≡ None
 absent_held objects digest links name s is absent =
     held_is objects digest links s name is
     ∙ elim (object_at objects digest name) as (λ o. object_at objects digest name ≡ o → held_by (object_at objects digest) o (origin_of (map.get links name)) ≡ None) [

@@ -4,6 +4,7 @@ use Rattle.std.specs.FinMap as map
 use Rattle.zot_outside.specs.Objects.{ChangesAt, Copies, Deletes, Objects, Puts}
 use Rattle.zot_outside.proofs.ObjectLemmas.{changes-put, changes-remove}
 use Rattle.zot_links.specs.Changes.{Told}
+use Rattle.zot_links.specs.Meaning.{Links, Stands, StandsWhereTold}
 
 pub told_puts : (before after : Option Objects) (path bytes : List ℕ) → Puts before path bytes after → Told before after (λ old new. ChangesAt old path (Some bytes) new)
 told_puts None after path bytes h = h
@@ -46,3 +47,9 @@ pub told_with : (before after : Option Objects) (F : Objects → Type 0) (P Q : 
 told_with None after F P Q f have h = h
 told_with (Some old) None F P Q f have h = h
 told_with (Some old) (Some new) F P Q f have h = f old new have h
+
+-- objects that stand for what is kept, where they are told
+pub where_stands : (before after : Option Objects) (digest : List ℕ) (links : Links) (Q : Objects → Objects → Type 0) → StandsWhereTold before digest links
+    → Told before after (λ old new. Stands old digest links → Q old new) → Told before after Q
+where_stands before after digest links Q s h =
+    told_with before after (λ old. Stands old digest links) (λ old new. Stands old digest links → Q old new) Q (λ old new stands f. f stands) s h

@@ -1,5 +1,5 @@
 -- How a repository comes to hold bytes.
-use Rattle.std.specs.Prelude.{◌≡◌, ◌≢◌, ℕ, Bool, List, Option, Some, None, is_some, ⊤}
+use Rattle.std.specs.Prelude.{◌≡◌, ◌≢◌, ℕ, Bool, List, Option, Some, None, is_some, option_map, unwrap_or, ⊤}
 use Rattle.zot_outside.specs.Objects.{Objects}
 use Rattle.zot_links.specs.Changes.{Keeps, Sets}
 use Rattle.zot_links.specs.Meaning.{IsFree, IsFresh, IsLink, IsWhole, Links, Stands, held, object_at}
@@ -14,6 +14,10 @@ form_in (Some origin) = forms.Link
 abbrev pub form_of : Option (Option (List ℕ)) → Form
 form_of None = forms.Absent
 form_of (Some origin) = form_in origin
+
+-- the repository whose object one stands for, by its entry: its link's origin, or itself
+abbrev pub source_of : List ℕ → Option (Option (List ℕ)) → Option (List ℕ)
+source_of name holder = option_map (λ origin. unwrap_or origin name) holder
 
 -- a link to any repository
 abbrev pub IsLinked : Links → List ℕ → Type 0

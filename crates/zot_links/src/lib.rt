@@ -4,6 +4,7 @@
 #![tactic(auto)]
 
 mod form;
+mod held;
 mod holding;
 mod laws;
 mod linking;
@@ -18,6 +19,7 @@ mod record_line;
 mod releasing;
 
 pub use crate::form::Form;
+pub use crate::held::{contents, size};
 pub use crate::holding::hold_bytes;
 pub use crate::laws::{
     held_elsewhere, object_calls_are_local, record_calls_are_local, what_stands_means,

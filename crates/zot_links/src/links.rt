@@ -1,7 +1,7 @@
 //! The holders of a digest.
-ghost use Rattle.std.specs.Prelude.{◌≡◌, ◌≢◌, ◌↔◌, ℕ, List, Option, Some, None, IfOk, IfSome, IsTrue, MatchOption, OnOk, OnErr, map as each, option_copied, option_map};
+ghost use Rattle.std.specs.Prelude.{◌≡◌, ◌≢◌, ◌↔◌, ℕ, List, Option, Some, None, IfOk, IfSome, IsTrue, MatchOption, OnOk, OnErr, map as each, option_copied, option_map, unwrap_or};
 ghost use Rattle.std.specs.FinMap as map;
-ghost use Rattle.zot_links.specs.Holding.{form_in, form_of};
+ghost use Rattle.zot_links.specs.Holding.{form_in, form_of, source_of};
 ghost use Rattle.zot_links.specs.Meaning.{IsFree, IsLink, Links};
 ghost use Rattle.zot_links.specs.Promotion.{first_link, is_link_to, line_of_entry, promote, redirect};
 ghost use Rattle.std.specs.BTreeMap.{insert_entry};
@@ -53,6 +53,18 @@ impl Links {
         ensures { option_copied result ≡ map.get self.now name.now }
     {
         self.tree.get(name)
+    }
+
+    /// The repository whose object a holder stands for: its link's origin, or itself. `None` where it is no holder.
+    pub fn source<'a>(&'a self, name: &'a RepoName) -> Option<&'a RepoName>
+        ensures source { option_copied result ≡ source_of name.now (map.get self.now name.now) }
+        ensures name { IsName name.now }
+    {
+        let _ = name.as_str();
+        let Some(origin) = self.get(name) else {
+            return None;
+        };
+        Some(origin_or(origin, name))
     }
 
     /// What a repository is among the holders.
@@ -155,6 +167,16 @@ impl Links {
         ensures all { IfOk result (λ lines. (name : List ℕ) → line_in lines.items name ≡ map.get self.now name) }
     {
         lines(alloc, &self.tree)
+    }
+}
+
+// The origin of a link, or the holder itself where its object is whole.
+fn origin_or<'a>(origin: &'a Option<RepoName>, name: &'a RepoName) -> &'a RepoName
+    ensures { result.now ≡ unwrap_or origin.now name.now }
+{
+    match origin {
+        Some(origin) => origin,
+        None => name,
     }
 }
 

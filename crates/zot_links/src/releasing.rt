@@ -6,7 +6,6 @@ ghost use Rattle.zot_links.specs.Changes.{HasCallsCause, Keeps, Sets, Told};
 ghost use Rattle.zot_links.specs.Holding.{MayChange, Releases};
 ghost use Rattle.zot_links.specs.Meaning.{IsFree, Stands, StandsWhereTold};
 
-use crate::form::Form;
 use crate::holding::prepare;
 use crate::links::Links;
 use crate::orders::remove;
@@ -25,8 +24,8 @@ pub fn release<S: Store>(
 ) -> StoreResult<bool>
     requires stands { StandsWhereTold (S.objects part.old) digest.now links.old }
     ensures cause { HasCallsCause (S.faults part.old) (S.faults part.new) result }
-    ensures ok { IfOk result (λ was. Told (S.objects part.old) (S.objects part.new) (λ old new. Stands old digest.now links.old → Releases was old digest.now links.old name.now new links.new)) }
-    ensures err { OnErr result (Told (S.objects part.old) (S.objects part.new) (λ old new. Stands old digest.now links.old → Keeps old digest.now links.old new links.new)) }
+    ensures ok { IfOk result (λ was. Told (S.objects part.old) (S.objects part.new) (λ old new. Releases was old digest.now links.old name.now new links.new)) }
+    ensures err { OnErr result (Told (S.objects part.old) (S.objects part.new) (λ old new. Keeps old digest.now links.old new links.new)) }
     ensures missing { OnMissing result ⊥ }
 {
     prepare(part, alloc, digest, links, name)?;
@@ -45,14 +44,12 @@ fn release_now<S: Store>(
     ensures ok { IfOk result (λ was. Told (S.objects part.old) (S.objects part.new) (λ old new. Stands old digest.now links.old → MayChange links.old name.now
         → Releases was old digest.now links.old name.now new links.new)) }
     ensures err { OnErr result (Told (S.objects part.old) (S.objects part.new) (λ old new. Stands old digest.now links.old → Keeps old digest.now links.old new links.new)) }
-    ensures name { IsName name.now }
     ensures missing { OnMissing result ⊥ }
+    ensures name { IsName name.now }
 {
-    let _ = name.as_slice();
-    match links.form(name) {
-        Form::Absent => Ok(false),
-        Form::Link => remove_holder(part, alloc, digest, links, name),
-        Form::Whole => remove_holder(part, alloc, digest, links, name),
+    match links.source(name) {
+        Some(_) => remove_holder(part, alloc, digest, links, name),
+        None => Ok(false),
     }
 }
 

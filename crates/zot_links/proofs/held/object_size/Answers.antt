@@ -1,0 +1,12 @@
+use Rattle.std.proofs.Common.{◌∙◌}
+use Rattle.zot_links.proofs.HeldLemmas.{object_sized, untold}
+use Rattle.zot_links.proofs.held.object_size.Goals as goal
+
+pub returns-in-Ok-clause-ok : goal.returns-in-Ok-clause-ok
+returns-in-Ok-clause-ok g c =
+    object_sized (g.S.Store.objects c.args.part.now) c.args.digest.now c.args.name.now c.as_str.result.now _ (c.as_str.ensures.value ∙ c.in_ok-path.ensures.path) c.in-Ok.ensures.ok
+
+pub contradicted-requires : goal.contradicted-requires
+contradicted-requires g c =
+    untold (g.S.Store.objects c.args.part.now) (g.S.Store.objects c.size.new.self) c.args.digest.now c.args.name.now c.as_str.result.now (c.as_str.ensures.value ∙ c.in_ok-path.ensures.path)
+    c.requires (rw c.in-Err-Missing.field-0-is at c.in-Err-Missing.ensures.missing) c.in-Err-Missing.ensures.kept
