@@ -14,3 +14,4 @@ pub mod MeaningLemmas
 pub mod HoldLemmas
 pub mod ReleaseLemmas
 pub mod LinkingLemmas
+pub mod OpeningLemmas
