@@ -15,3 +15,4 @@ pub mod HoldLemmas
 pub mod ReleaseLemmas
 pub mod LinkingLemmas
 pub mod HeldLemmas
+pub mod OpeningLemmas

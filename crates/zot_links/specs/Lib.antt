@@ -4,3 +4,4 @@ pub mod Promotion
 pub mod Changes
 pub mod Orders
 pub mod Holding
+pub mod Opening

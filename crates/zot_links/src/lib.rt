@@ -1,6 +1,6 @@
 //! The contents of digests in a store: what each repository holds under a digest, where equal bytes are one object and links to it.
 //!
-//! `hold_bytes(part, alloc, digest, links, name, bytes)` sets what a repository holds under a digest, `hold_link` makes it a link to another's object, and `release` removes it. `read_record(alloc, bytes)` gives the lines of the record that says which objects are links.
+//! `hold_bytes(part, alloc, digest, links, name, bytes)` sets what a repository holds under a digest, `hold_link` makes it a link to another's object, and `release` removes it. `read_record(alloc, bytes)` gives the lines of the record that says which objects are links. `open_links(part, alloc, digest, found)` gives the holders that a digest's objects stand for, by the repositories that have one.
 #![tactic(auto)]
 
 mod form;
@@ -9,6 +9,8 @@ mod holding;
 mod laws;
 mod linking;
 mod links;
+mod links_error;
+mod opening;
 mod orders;
 mod part;
 mod paths;
@@ -26,6 +28,8 @@ pub use crate::laws::{
 };
 pub use crate::linking::hold_link;
 pub use crate::links::{Links, Tree};
+pub use crate::links_error::LinksError;
+pub use crate::opening::open_links;
 pub use crate::part::object_is;
 pub use crate::reading::read_record;
 pub use crate::record::record_text;

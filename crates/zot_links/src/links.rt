@@ -77,8 +77,22 @@ impl Links {
         }
     }
 
-    // Sets a holder. After an `Err` the holders are as they were.
-    fn set(&mut self, name: RepoName, origin: Option<RepoName>) -> Result<(), AllocError>
+    /// The holders in a tree.
+    pub fn of(tree: Tree) -> Self
+        ensures { result ≡ map_of tree.entries }
+    {
+        Links { tree }
+    }
+
+    /// The tree of the holders.
+    pub fn tree(&self) -> &Tree
+        ensures { map_of result.now.entries ≡ self.now }
+    {
+        &self.tree
+    }
+
+    /// Sets a holder. After an `Err` the holders are as they were.
+    pub fn set(&mut self, name: RepoName, origin: Option<RepoName>) -> Result<(), AllocError>
         ensures ok { OnOk result (self.new ≡ map.insert self.old name origin) }
         ensures err { OnErr result (self.new ≡ self.old) }
     {
@@ -247,8 +261,8 @@ fn lines(alloc: Global, tree: &Tree) -> Result<Vec<RecordLine>, AllocError>
     Ok(lines)
 }
 
-// Puts a holder into a tree.
-fn put(tree: &mut Tree, name: RepoName, origin: Option<RepoName>) -> Result<(), AllocError>
+/// Puts a holder into a tree.
+pub fn put(tree: &mut Tree, name: RepoName, origin: Option<RepoName>) -> Result<(), AllocError>
     ensures { OnOk result (tree.new.entries ≡ insert_entry byte_cmp tree.old.entries name origin) }
 {
     tree.insert(name, origin)?;
@@ -315,8 +329,8 @@ fn line(alloc: Global, name: &RepoName, origin: &Option<RepoName>) -> Result<Rec
     })
 }
 
-// A copy of a name.
-fn named(alloc: Global, name: &RepoName) -> Result<RepoName, AllocError>
+/// A copy of a name.
+pub fn named(alloc: Global, name: &RepoName) -> Result<RepoName, AllocError>
     ensures value { IfOk result (λ copy. copy ≡ name.now) }
     ensures named { IsName name.now }
 {
