@@ -1,9 +1,9 @@
 -- Holders in a tree, one by one.
-use Rattle.std.proofs.Common.{◌≡◌, ◌≢◌, ℕ, inl, inr, append_assoc, Bool, true, false, cond, List, [], ◌∷◌, ◌++◌, map, Option, Some, None, refl, sym, ap, subst, ◌∙◌, MatchOption, Bor}
+use Rattle.std.proofs.Common.{arith, ◌≡◌, ◌≢◌, ℕ, inl, inr, append_assoc, Bool, true, false, cond, List, [], ◌∷◌, ◌++◌, length, map, Option, Some, None, refl, sym, ap, subst, ◌∙◌, MatchOption, Bor}
 use Rattle.std.specs.Prelude.{T, ◌&&◌, if◌then◌else◌, IfOk, OnOk, Result, Ok, Err, option_copied, option_map}
 use Rattle.std.specs.BTreeMap.{insert_entry}
 use Rattle.std.specs.FinMap as finite
-use Rattle.std.specs.FinMap.{entries_sorted, get-entries, get-from_entries}
+use Rattle.std.specs.FinMap.{entries_sorted, get-empty, get-entries, get-from_entries}
 use Rattle.std.specs.FinMap.Entries.{below_all, find, is_sorted, same_entries}
 use Rattle.std.specs.List.{AllByRecursion}
 use Rattle.std.specs.List.Sorted.{IsStrictlySortedBy}
@@ -196,3 +196,13 @@ pub lines_are : {V E : Type 0} (r : Result V E) (items : V → List RecordLine) 
     → OnOk r (IsStrictlySortedBy byte_cmp (map (λ e. e.0) es)) → IfOk r (λ v. AreLines (items v))
 lines_are (Ok v) items es is names sorted = are_lines es (items v) is names sorted
 lines_are (Err e) items es is names sorted = is
+
+-- ---- no holders
+
+-- a tree has no entries exactly where its map is empty
+pub empty_both : {X : Type 0} (es : List (List ℕ × X)) (b : Bool) → (b ≡ true → length es ≡ 0) → (length es ≡ 0 → b ≡ true) → (b ≡ true → map_of es ≡ finite.empty) × (map_of es ≡ finite.empty → b ≡ true)
+empty_both [] b there back = (λ h. refl, λ h. back refl)
+empty_both (e ∷ es) b there back = (
+  λ h. absurd (omega (arith, there h)),
+  λ h. absurd (cc (sym (get-from_entries byte_order.total (e ∷ es) e.0 ∙ ap (λ b. cond b (Some e.1) (find byte_cmp e.0 es)) (same_key byte_order e.0)) ∙ ap (λ m. finite.get m e.0) h ∙ get-empty byte_cmp e.0)),
+)

@@ -48,6 +48,13 @@ impl Links {
         }
     }
 
+    /// Whether there are no holders.
+    pub fn is_empty(&self) -> bool
+        ensures { IsTrue result ↔ (self.now ≡ map.empty) }
+    {
+        self.tree.is_empty()
+    }
+
     /// The holder of a name: the origin of its link, or `None` where its object is whole.
     pub fn get(&self, name: &RepoName) -> Option<&Option<RepoName>>
         ensures { option_copied result ≡ map.get self.now name.now }

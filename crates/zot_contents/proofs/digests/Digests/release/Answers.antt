@@ -1,0 +1,41 @@
+use Rattle.std.proofs.Common.{◌≡◌, ◌∙◌, sym, ap, subst, Some, IfOk, OnErr}
+use Rattle.std.specs.FinMap as map
+use Rattle.zot_links.specs.Changes.{Keeps, Told}
+use Rattle.zot_links.specs.Holding.{Releases}
+use Rattle.zot_links.specs.Meaning.{Links, StandsWhereTold}
+use Rattle.zot_contents.proofs.KeptLemmas.{both_moved, found_links, not_found, written_beside, written_here}
+use Rattle.zot_contents.specs.Shards.{links_at}
+use Rattle.zot_contents.proofs.digests.Digests.release.Goals as goal
+
+pub release-requires : goal.release-requires
+release-requires g c = record {
+  stands =
+      subst (λ (l : Links). StandsWhereTold (g.S.Store.objects c.args.part.now) c.args.digest.now l)
+      (found_links c.self.inside.tree.entries c.args.self.now c.args.digest.now c.in-Some.links.now c.self.view_is c.in-Some.ensures.value) c.requires.stands;
+}
+
+pub unreachable-requires : goal.unreachable-requires
+unreachable-requires g c = not_found c.self.inside.tree.entries c.args.self.now c.args.digest.now c.self.view_is c.in-None.ensures.value c.requires.kept
+
+pub returns-clause-ok : goal.returns-clause-ok
+returns-clause-ok g c =
+    both_moved (λ x y. IfOk c.release.result (λ was. Told (g.S.Store.objects c.args.part.now) (g.S.Store.objects c.release.new.part) (λ old new. Releases was old c.args.digest.now x c.args.name.now new y)))
+    c.in-Some.links.now c.release.new.links (links_at c.args.self.now c.args.digest.now) _
+    (found_links c.self.inside.tree.entries c.args.self.now c.args.digest.now c.in-Some.links.now c.self.view_is c.in-Some.ensures.value)
+    (written_here c.self.inside.tree.entries (c.get_mut.follows.lender c.release.new.links).entries c.args.self.now c.args.digest.now c.in-Some.links.now c.release.new.links c.self.view_is c.in-Some.ensures.value
+    (c.get_mut.follows.holds c.release.new.links).3)
+    c.release.ensures.ok
+
+pub returns-clause-err : goal.returns-clause-err
+returns-clause-err g c =
+    both_moved (λ x y. OnErr c.release.result (Told (g.S.Store.objects c.args.part.now) (g.S.Store.objects c.release.new.part) (λ old new. Keeps old c.args.digest.now x new y)))
+    c.in-Some.links.now c.release.new.links (links_at c.args.self.now c.args.digest.now) _
+    (found_links c.self.inside.tree.entries c.args.self.now c.args.digest.now c.in-Some.links.now c.self.view_is c.in-Some.ensures.value)
+    (written_here c.self.inside.tree.entries (c.get_mut.follows.lender c.release.new.links).entries c.args.self.now c.args.digest.now c.in-Some.links.now c.release.new.links c.self.view_is c.in-Some.ensures.value
+    (c.get_mut.follows.holds c.release.new.links).3)
+    c.release.ensures.err
+
+pub returns-clause-beside : goal.returns-clause-beside
+returns-clause-beside g c =
+    written_beside c.self.inside.tree.entries (c.get_mut.follows.lender c.release.new.links).entries c.args.self.now c.args.digest.now c.in-Some.links.now c.release.new.links c.self.view_is c.in-Some.ensures.value
+    (c.get_mut.follows.holds c.release.new.links).3

@@ -1,0 +1,4 @@
+pub mod Pool
+pub mod Shards
+pub mod Holdings
+pub mod Opening

@@ -1,0 +1,23 @@
+//! Shards of digests: what repositories hold under them, over a store in which equal bytes are one object and links to it.
+//!
+//! `DigestShard::open(part, alloc, number, dedupe)` reads what a part of the store holds. Of the shard `attach`, `mount` and `detach` change what one repository holds under a digest, `read` gives it, and `holdings` lists all; `step` makes any of these calls. `close` gives the part back.
+#![tactic(auto)]
+
+mod digests;
+mod holding;
+mod holding_list;
+mod layout_fault;
+mod pool_call;
+mod pool_reply;
+mod shard;
+mod sharding;
+mod unopened;
+
+pub use crate::holding::Holding;
+pub use crate::holding_list::HoldingList;
+pub use crate::layout_fault::LayoutFault;
+pub use crate::pool_call::PoolCall;
+pub use crate::pool_reply::PoolReply;
+pub use crate::shard::DigestShard;
+pub use crate::sharding::{SHARDS, shard_of};
+pub use crate::unopened::Unopened;
