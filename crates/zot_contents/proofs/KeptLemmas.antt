@@ -11,7 +11,7 @@ use Rattle.zot_maps.proofs.Entries.{Writes, map_written}
 use Rattle.zot_maps.proofs.Maps.{byte_order, found_at, get_elsewhere, get_here, removed_elsewhere, removed_here}
 use Rattle.zot_links.proofs.StandLemmas.{decide}
 use Rattle.zot_links.specs.Meaning.{Links}
-use Rattle.zot_contents.specs.Shards.{Kept, links_at}
+use Rattle.zot_contents.specs.Shards.{AllOwn, IsOfShard, KeepsOnly, Kept, links_at}
 
 -- a digest that was set is kept, with these holders
 pub set_here : (old new : Kept) (digest : List ℕ) (links : Links) → new ≡ map.insert old digest links → links_at new digest ≡ links
@@ -82,3 +82,32 @@ both_moved P a b x y before after h = subst (λ z. P x z) (sym after) (subst (λ
 -- a digest that is kept is found
 pub not_found : (es : Entries) (kept : Kept) (digest : List ℕ) → map_of es ≡ kept → None ≡ lookup (is_at (byte_cmp digest)) es → IsSome (map.get kept digest) → ⊥
 not_found es kept digest is none has = cc (sym has ∙ ap (λ (o : Option Links). is_some o) (found_at byte_order es kept digest None is none))
+
+-- ---- which digests are kept
+
+-- no more are after one was set
+pub set_only : (old new : Kept) (digest : List ℕ) (links : Links) → new ≡ map.insert old digest links → KeepsOnly old digest new
+set_only old new digest links is other has apart =
+    subst (λ (o : Option Links). IsSome o) (ap (λ (m : Kept). map.get m other) is ∙ get_elsewhere byte_order old digest links other apart) has
+
+pub set_only_so : {T E : Type 0} (r : Result T E) (old new : Kept) (digest : List ℕ) (links : Links) → OnOk r (new ≡ map.insert old digest links) → OnErr r (new ≡ old) → KeepsOnly old digest new
+set_only_so (Ok x) old new digest links is kept = set_only old new digest links is
+set_only_so (Err e) old new digest links is kept = λ other has apart. subst (λ (m : Kept). IsSome (map.get m other)) kept has
+
+-- nor after one was removed
+pub removed_only : (old new : Kept) (digest : List ℕ) → new ≡ map.remove old digest → KeepsOnly old digest new
+removed_only old new digest is other has apart =
+    subst (λ (o : Option Links). IsSome o) (ap (λ (m : Kept). map.get m other) is ∙ removed_elsewhere byte_order old digest other apart) has
+
+-- nor after one was written in place
+pub written_only : (es fs : Entries) (kept : Kept) (digest : List ℕ) (found links : Links) → map_of es ≡ kept → Some found ≡ lookup (is_at (byte_cmp digest)) es
+    → Writes byte_order es fs digest links → KeepsOnly kept digest (map_of fs)
+written_only es fs kept digest found links is has writes = set_only kept (map_of fs) digest links (map_written byte_order es fs kept digest found links is has writes)
+
+-- after all three they are still of the shard
+pub own_after : (number : ℕ) (kept first second later : Kept) (digest : List ℕ) → IsOfShard number digest → KeepsOnly kept digest first → KeepsOnly first digest second → KeepsOnly second digest later
+    → AllOwn number kept → AllOwn number later
+own_after number kept first second later digest is one two three own other has = elim (decide other digest) [
+  | inl same ↦ subst (λ d. IsOfShard number d) (sym same) is
+  | inr apart ↦ own other (one other (two other (three other has apart) apart) apart)
+]

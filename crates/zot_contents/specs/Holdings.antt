@@ -16,7 +16,6 @@ key_of holding = holding.digest ++ holding.name
 -- what a holding says is so: the repository holds so many bytes under the digest, which is one of the shard
 pub record IsHeld (number : ℕ) (held : List ℕ → List ℕ → Option (List ℕ)) (holding : Holding) : Type 0 where
   pub digest : IsOfShard number holding.digest
-  pub name : IsName holding.name
   pub bytes : List ℕ
   pub holds : held holding.digest holding.name ≡ Some bytes
   pub size : holding.size ≡ length bytes

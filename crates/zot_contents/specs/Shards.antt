@@ -1,5 +1,5 @@
 -- A shard of digests: which digests are its own, and what it keeps of them in memory.
-use Rattle.std.specs.Prelude.{◌≡◌, ◌≢◌, ℕ, ◌%◌, Bool, true, List, [], slice_index, Option, None, Some, IfSome, unwrap_or, ⊤}
+use Rattle.std.specs.Prelude.{◌≡◌, ◌≢◌, ℕ, ◌%◌, Bool, true, List, [], slice_index, Option, None, Some, IfSome, IsSome, unwrap_or, ⊤}
 use Rattle.std.specs.Coded.{Coded, coded_list, coded_ℕ}
 use Rattle.std.specs.FinMap as map
 use Rattle.zot_digest.specs.ByteMap.{ByteMap}
@@ -53,6 +53,14 @@ StandsAt objects kept digest = IfSome objects (λ told. Stands told digest (link
 -- so it does for each digest of the shard
 abbrev pub AllStand : Option Objects → ℕ → Kept → Type 0
 AllStand objects number kept = (digest : List ℕ) → IsOfShard number digest → StandsAt objects kept digest
+
+-- what is kept is of digests of the shard
+abbrev pub AllOwn : ℕ → Kept → Type 0
+AllOwn number kept = (digest : List ℕ) → IsSome (map.get kept digest) → IsOfShard number digest
+
+-- nothing more is kept than before, but for one digest
+abbrev pub KeepsOnly : Kept → List ℕ → Kept → Type 0
+KeepsOnly old digest new = (other : List ℕ) → IsSome (map.get new other) → other ≢ digest → IsSome (map.get old other)
 
 -- ---- equal bytes
 

@@ -5,7 +5,7 @@ ghost use Rattle.zot_outside.specs.Faults.{HasStoreCause, OnMissing};
 ghost use Rattle.zot_links.specs.Changes.{HasCallsCause, Keeps, Told};
 ghost use Rattle.zot_links.specs.Holding.{Releases};
 ghost use Rattle.zot_links.specs.Meaning.{held};
-ghost use Rattle.zot_contents.specs.Shards.{StandsAt, links_at};
+ghost use Rattle.zot_contents.specs.Shards.{KeepsOnly, StandsAt, links_at};
 
 use std::alloc::{AllocError, Global};
 use std::collections::BTreeMap;
@@ -62,6 +62,7 @@ impl Digests {
     pub fn keep(&mut self, alloc: Global, digest: &Digest) -> Result<(), AllocError>
         ensures kept { OnOk result (IsSome (map.get self.new digest.now)) }
         ensures same { (other : List ℕ) → links_at self.new other ≡ links_at self.old other }
+        ensures only { KeepsOnly self.old digest.now self.new }
     {
         if self.get(digest).is_some() {
             return Ok(());
@@ -71,7 +72,8 @@ impl Digests {
 
     /// Lets a digest go that has no holders.
     pub fn tidy(&mut self, digest: &Digest)
-        ensures { (other : List ℕ) → links_at self.new other ≡ links_at self.old other }
+        ensures same { (other : List ℕ) → links_at self.new other ≡ links_at self.old other }
+        ensures only { KeepsOnly self.old digest.now self.new }
     {
         match self.get(digest) {
             Some(links) if links.is_empty() => self.remove(digest),
@@ -103,6 +105,7 @@ impl Digests {
             Keeps old digest.now (links_at self.old digest.now) new (links_at self.new digest.now))) }
         ensures missing { OnMissing result ⊥ }
         ensures beside { (other : List ℕ) → other ≢ digest.now → links_at self.new other ≡ links_at self.old other }
+        ensures only { KeepsOnly self.old digest.now self.new }
     {
         match self.tree.get_mut(digest) {
             Some(links) => release(part, alloc, digest, links, name),

@@ -6,7 +6,7 @@ ghost use Rattle.zot_links.specs.Changes.{HasCallsCause, Told};
 ghost use Rattle.zot_links.specs.Meaning.{held};
 ghost use Rattle.zot_contents.specs.Pool.{AreSame, Gives, plain_detach};
 ghost use Rattle.zot_contents.specs.declared.pool_reply.PoolReply.TheVariants.{Removed};
-ghost use Rattle.zot_contents.specs.Shards.{AllStand, IsOfShard, KeepsTight};
+ghost use Rattle.zot_contents.specs.Shards.{AllOwn, AllStand, IsOfShard, KeepsTight};
 
 use crate::digests::Digests;
 use std::alloc::Global;
@@ -21,6 +21,7 @@ pub struct DigestShard<S: Store> {
     number: u32,
     dedupe: bool,
     digests: Digests,
+    ghost own: { AllOwn number digests } by { Prim.hlevel props },
     ghost stand: { AllStand (S.objects part) number digests } by { Prim.hlevel props },
 }
 

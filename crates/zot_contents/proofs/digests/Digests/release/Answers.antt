@@ -3,7 +3,7 @@ use Rattle.std.specs.FinMap as map
 use Rattle.zot_links.specs.Changes.{Keeps, Told}
 use Rattle.zot_links.specs.Holding.{Releases}
 use Rattle.zot_links.specs.Meaning.{Links, StandsWhereTold}
-use Rattle.zot_contents.proofs.KeptLemmas.{both_moved, found_links, not_found, written_beside, written_here}
+use Rattle.zot_contents.proofs.KeptLemmas.{both_moved, found_links, not_found, written_beside, written_here, written_only}
 use Rattle.zot_contents.specs.Shards.{links_at}
 use Rattle.zot_contents.proofs.digests.Digests.release.Goals as goal
 
@@ -38,4 +38,9 @@ returns-clause-err g c =
 pub returns-clause-beside : goal.returns-clause-beside
 returns-clause-beside g c =
     written_beside c.self.inside.tree.entries (c.get_mut.follows.lender c.release.new.links).entries c.args.self.now c.args.digest.now c.in-Some.links.now c.release.new.links c.self.view_is c.in-Some.ensures.value
+    (c.get_mut.follows.holds c.release.new.links).3
+
+pub returns-clause-only : goal.returns-clause-only
+returns-clause-only g c =
+    written_only c.self.inside.tree.entries (c.get_mut.follows.lender c.release.new.links).entries c.args.self.now c.args.digest.now c.in-Some.links.now c.release.new.links c.self.view_is c.in-Some.ensures.value
     (c.get_mut.follows.holds c.release.new.links).3

@@ -5,6 +5,7 @@ use Rattle.zot_links.proofs.LineLemmas.{on_ok}
 use Rattle.zot_links.specs.Changes.{Keeps, Told, with_held}
 use Rattle.zot_links.specs.Holding.{Releases}
 use Rattle.zot_links.specs.Meaning.{held}
+use Rattle.zot_contents.proofs.KeptLemmas.{own_after}
 use Rattle.zot_contents.proofs.ShardLemmas.{beside_all, detached, either_ok, kept_bytes, released_sets, stand_alike, turned_stand, turned_tight}
 use Rattle.zot_contents.specs.Shards.{AllStand, AreTight, links_at}
 use Rattle.zot_contents.proofs.shard.DigestShard.detach.Goals as goal
@@ -20,17 +21,20 @@ invariant_of-self-2 g c =
     let digest = c.args.digest.now in
     let links = links_at c.keep.new.self digest in
     let later = links_at c.release-released.new.self digest in
-    let beside = beside_all c.args.self.now.digests c.keep.new.self c.release-released.new.self c.tidy.new.self digest c.keep.ensures.same c.release-released.ensures.beside c.tidy.ensures in
+    let beside = beside_all c.args.self.now.digests c.keep.new.self c.release-released.new.self c.tidy.new.self digest c.keep.ensures.same c.release-released.ensures.beside c.tidy.ensures.same in
     record {
+      own =
+          own_after c.args.self.now.number c.args.self.now.digests c.keep.new.self c.release-released.new.self c.tidy.new.self digest c.requires c.keep.ensures.only c.release-released.ensures.only
+          c.tidy.ensures.only c.args.self.now.own;
       stand =
           either_ok c.release-released.result
           (λ was. Told before after (λ old new. Releases was old digest links c.args.name.now new later))
           (Told before after (λ old new. Keeps old digest links new later))
           (AllStand after c.args.self.now.number c.tidy.new.self)
           (λ was told. turned_stand before after c.args.self.now.number c.args.self.now.digests c.tidy.new.self digest links later (Unit {0}) (λ old. with_held (held old digest) c.args.name.now None)
-          (sym (c.keep.ensures.same digest)) (c.tidy.ensures digest) beside (released_sets before after digest c.args.name.now links later was told) c.args.self.now.stand)
+          (sym (c.keep.ensures.same digest)) (c.tidy.ensures.same digest) beside (released_sets before after digest c.args.name.now links later was told) c.args.self.now.stand)
           (λ told. turned_stand before after c.args.self.now.number c.args.self.now.digests c.tidy.new.self digest links later (Unit {0}) (λ old. held old digest)
-          (sym (c.keep.ensures.same digest)) (c.tidy.ensures digest) beside told c.args.self.now.stand)
+          (sym (c.keep.ensures.same digest)) (c.tidy.ensures.same digest) beside told c.args.self.now.stand)
           c.release-released.ensures.ok c.release-released.ensures.err;
     }
 
@@ -53,13 +57,13 @@ returns-clause-tight g c dedupes =
     let digest = c.args.digest.now in
     let links = links_at c.keep.new.self digest in
     let later = links_at c.release-released.new.self digest in
-    let beside = beside_all c.args.self.now.digests c.keep.new.self c.release-released.new.self c.tidy.new.self digest c.keep.ensures.same c.release-released.ensures.beside c.tidy.ensures in
+    let beside = beside_all c.args.self.now.digests c.keep.new.self c.release-released.new.self c.tidy.new.self digest c.keep.ensures.same c.release-released.ensures.beside c.tidy.ensures.same in
     either_ok c.release-released.result
     (λ was. Told before after (λ old new. Releases was old digest links c.args.name.now new later))
     (Told before after (λ old new. Keeps old digest links new later))
     (Told before after (λ old new. AreTight old c.args.self.now.number c.args.self.now.digests → AreTight new c.args.self.now.number c.tidy.new.self))
     (λ was told. turned_tight before after c.args.self.now.number c.args.self.now.digests c.tidy.new.self digest links later (Unit {0}) (λ old. with_held (held old digest) c.args.name.now None)
-    (sym (c.keep.ensures.same digest)) (c.tidy.ensures digest) beside (released_sets before after digest c.args.name.now links later was told) tt)
+    (sym (c.keep.ensures.same digest)) (c.tidy.ensures.same digest) beside (released_sets before after digest c.args.name.now links later was told) tt)
     (λ told. turned_tight before after c.args.self.now.number c.args.self.now.digests c.tidy.new.self digest links later (Unit {0}) (λ old. held old digest)
-    (sym (c.keep.ensures.same digest)) (c.tidy.ensures digest) beside told tt)
+    (sym (c.keep.ensures.same digest)) (c.tidy.ensures.same digest) beside told tt)
     c.release-released.ensures.ok c.release-released.ensures.err
