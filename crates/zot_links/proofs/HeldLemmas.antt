@@ -55,9 +55,9 @@ pub nothing_there : (objects : Objects) (digest : List ℕ) (links : Links) (nam
     → held objects digest name ≡ None
 nothing_there objects digest links name s is none = absent_held objects digest links name s is (no_source name (map.get links name) none)
 
-pub source_there : (objects : Objects) (digest : List ℕ) (links : Links) (name source : List ℕ) → Stands objects digest links → IsName name → Some source ≡ source_of name (map.get links name)
+pub held_source : (objects : Objects) (digest : List ℕ) (links : Links) (name source : List ℕ) → Stands objects digest links → IsName name → Some source ≡ source_of name (map.get links name)
     → held objects digest name ≡ object_at objects digest source
-source_there objects digest links name source s is from = held_is objects digest links s name is ∙ split (map.get links name) refl from where
+held_source objects digest links name source s is from = held_is objects digest links s name is ∙ split (map.get links name) refl from where
   split : (holder : Option (Option (List ℕ))) → map.get links name ≡ holder → Some source ≡ source_of name holder → holds objects digest links name ≡ object_at objects digest source
   split None at h = cc h
   split (Some None) at h = let same : source ≡ name = cc h in whole_holds objects digest links name at ∙ ap (object_at objects digest) (sym same)
@@ -72,7 +72,7 @@ none_found (Some told) digest links name s is none = sym (nothing_there told dig
 pub bytes_found : (objects : Option Objects) (digest : List ℕ) (links : Links) (name source bytes : List ℕ) → StandsWhereTold objects digest links → IsName name
     → Some source ≡ source_of name (map.get links name) → IfSome objects (λ told. object_at told digest source ≡ Some bytes) → IfSome objects (λ told. Some bytes ≡ held told digest name)
 bytes_found None digest links name source bytes s is from h = tt
-bytes_found (Some told) digest links name source bytes s is from h = sym (source_there told digest links name source s is from ∙ h)
+bytes_found (Some told) digest links name source bytes s is from h = sym (held_source told digest links name source s is from ∙ h)
 
 pub none_sized : (objects : Option Objects) (digest : List ℕ) (links : Links) (name : List ℕ) → StandsWhereTold objects digest links → IsName name → None ≡ source_of name (map.get links name)
     → IfSome objects (λ told. None ≡ option_map length (held told digest name))
@@ -88,7 +88,7 @@ pub size_found : (objects : Option Objects) (digest : List ℕ) (links : Links) 
     → IfSome objects (λ told. Some n ≡ option_map length (held told digest name))
 size_found None digest links name source n s is from h = tt
 size_found (Some told) digest links name source n s is from h =
-    size_by (object_at told digest source) n h ∙ sym (ap (option_map length) (source_there told digest links name source s is from))
+    size_by (object_at told digest source) n h ∙ sym (ap (option_map length) (held_source told digest links name source s is from))
 
 -- ---- what is given up
 

@@ -16,3 +16,4 @@ pub mod ReleaseLemmas
 pub mod LinkingLemmas
 pub mod HeldLemmas
 pub mod OpeningLemmas
+pub mod AimLemmas

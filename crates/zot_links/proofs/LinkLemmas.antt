@@ -24,7 +24,7 @@ both : (a b : Bool) → T a → T b → T (a && b)
 both true b x y = y
 both false b x y = absurd x
 
-apart : (low key : List ℕ) → byte_cmp low key ≡ Less → eq_by_cmp byte_cmp key low ≡ false
+pub apart : (low key : List ℕ) → byte_cmp low key ≡ Less → eq_by_cmp byte_cmp key low ≡ false
 apart low key less = split (eq_by_cmp byte_cmp key low) refl where
   split : (b : Bool) → eq_by_cmp byte_cmp key low ≡ b → b ≡ false
   split false is = refl

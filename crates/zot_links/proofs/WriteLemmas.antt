@@ -1,8 +1,9 @@
 -- The orders of writes over a store that tells its objects, call by call.
-use Rattle.std.proofs.Common.{◌≡◌, ℕ, List, Option, Some, None, is_some, IsSome, IfSome, refl, sym, ap, subst}
+use Rattle.std.proofs.Common.{◌≡◌, ℕ, List, Option, Some, None, is_some, IsSome, IfSome, refl, sym, ap, subst, ◌∙◌}
 use Rattle.std.specs.Prelude.{Result, Ok, Err, OnErr, ⊤}
 use Rattle.std.specs.FinMap as map
 use Rattle.std.proofs.lemmas.Bool.{true≢false}
+use Rattle.zot_maps.proofs.Maps.{byte_order, get_here}
 use Rattle.zot_outside.specs.Objects.{Objects}
 use Rattle.zot_links.proofs.OrderLemmas.{added, copied, kept_self, line_kept, promoted, relinked, removed, tidied, turns_then}
 use Rattle.zot_links.proofs.ToldLemmas.{told_keeps, told_so, told_then}
@@ -61,6 +62,10 @@ relink_done before after digest links wanted name origin is h =
     (λ old new r bytes s may begins.
     subst (λ w. Sets (fresh_whole origin old digest links bytes) old digest links name (Some bytes) new w) (sym is)
     (relinked old new digest links name bytes s origin may begins (subst (λ w. RecordsLinks old digest w new) is r))) h
+
+-- a holder's entry after it was set
+pub set_here : (links later : Links) (name : List ℕ) (origin : Option (List ℕ)) → later ≡ map.insert links name origin → map.get later name ≡ Some origin
+set_here links later name origin is = ap (λ (m : Links). map.get m name) is ∙ get_here byte_order links name origin
 
 -- the object of a whole holder has bytes
 pub its_bytes : (object : Option (List ℕ)) → IsSome object → (bytes : List ℕ) × (object ≡ Some bytes)

@@ -5,3 +5,4 @@ pub mod Changes
 pub mod Orders
 pub mod Holding
 pub mod Opening
+pub mod Aims

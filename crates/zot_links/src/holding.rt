@@ -29,6 +29,7 @@ pub fn hold_bytes<S: Store>(
         → Sets (IsFresh old digest.now links.old bytes.now) old digest.now links.old name.now (Some bytes.now) new links.new)) }
     ensures err { OnErr result (Told (S.objects part.old) (S.objects part.new) (λ old new. Stands old digest.now links.old → Keeps old digest.now links.old new links.new)) }
     ensures missing { OnMissing result ⊥ }
+    ensures whole { OnOk result (IsWhole links.new name.now) }
 {
     prepare(part, alloc, digest, links, name)?;
     write_bytes(part, alloc, digest, links, name, bytes)
@@ -91,6 +92,7 @@ fn write_bytes<S: Store>(
     ensures ok { OnOk result (Told (S.objects part.old) (S.objects part.new) (λ old new. GetsBytes digest.now links.old name.now bytes.now links.new old new)) }
     ensures err { OnErr result (Told (S.objects part.old) (S.objects part.new) (λ old new. Stands old digest.now links.old → Keeps old digest.now links.old new links.new)) }
     ensures missing { OnMissing result ⊥ }
+    ensures whole { OnOk result (IsWhole links.new name.now) }
 {
     match links.form(name) {
         Form::Absent => add(part, alloc, digest, links, name, None, bytes),
@@ -114,6 +116,7 @@ fn make_whole<S: Store>(
     ensures err { OnErr result (Told (S.objects part.old) (S.objects part.new) (λ old new. Stands old digest.now links.old → IsLinked links.old name.now
         → Keeps old digest.now links.old new links.new)) }
     ensures missing { OnMissing result ⊥ }
+    ensures whole { OnOk result (IsWhole links.new name.now) }
 {
     put_object(part, alloc, digest, name, bytes)?;
     relink(part, alloc, digest, links, name, None)

@@ -3,6 +3,8 @@
 //! `hold_bytes(part, alloc, digest, links, name, bytes)` sets what a repository holds under a digest, `hold_link` makes it a link to another's object, and `release` removes it. `read_record(alloc, bytes)` gives the lines of the record that says which objects are links. `open_links(part, alloc, digest, found)` gives the holders that a digest's objects stand for, by the repositories that have one.
 #![tactic(auto)]
 
+mod aim;
+mod attaching;
 mod form;
 mod held;
 mod holding;
@@ -20,6 +22,7 @@ mod record_error;
 mod record_line;
 mod releasing;
 
+pub use crate::attaching::attach;
 pub use crate::form::Form;
 pub use crate::held::{contents, size};
 pub use crate::holding::hold_bytes;

@@ -3,7 +3,7 @@ ghost use Rattle.std.specs.Prelude.{◌≡◌, ◌≤◌, ℕ, List, OnErr, OnOk
 ghost use Rattle.zot_outside.specs.Faults.{OnMissing};
 ghost use Rattle.zot_links.specs.Changes.{HasCallsCause, Keeps, Sets, Told};
 ghost use Rattle.zot_links.specs.Holding.{GetsLink, HasOrigin, IsLinked};
-ghost use Rattle.zot_links.specs.Meaning.{IsFree, IsWhole, Links, Stands, StandsWhereTold};
+ghost use Rattle.zot_links.specs.Meaning.{IsFree, IsLink, IsWhole, Links, Stands, StandsWhereTold};
 
 use crate::form::Form;
 use crate::holding::prepare;
@@ -30,6 +30,7 @@ pub fn hold_link<S: Store>(
         → HasOrigin old digest.now links.old name.now origin.now bytes → Sets ⊤ old digest.now links.old name.now (Some bytes) new links.new)) }
     ensures err { OnErr result (Told (S.objects part.old) (S.objects part.new) (λ old new. Stands old digest.now links.old → Keeps old digest.now links.old new links.new)) }
     ensures missing { OnMissing result ⊥ }
+    ensures link { OnOk result (IsLink links.new name.now origin.now) }
 {
     prepare(part, alloc, digest, links, name)?;
     write_link(part, alloc, digest, links, name, origin)
@@ -48,6 +49,7 @@ fn write_link<S: Store>(
     ensures ok { OnOk result (Told (S.objects part.old) (S.objects part.new) (λ old new. GetsLink digest.now links.old name.now origin.now links.new old new)) }
     ensures err { OnErr result (Told (S.objects part.old) (S.objects part.new) (λ old new. Stands old digest.now links.old → Keeps old digest.now links.old new links.new)) }
     ensures missing { OnMissing result ⊥ }
+    ensures link { OnOk result (IsLink links.new name.now origin.now) }
 {
     match links.form(name) {
         Form::Absent => add(part, alloc, digest, links, name, Some(origin), b""),
@@ -70,6 +72,7 @@ fn make_link<S: Store>(
         → IsFree links.old name.now → HasOrigin old digest.now links.old name.now origin.now bytes → Sets ⊤ old digest.now links.old name.now (Some bytes) new links.new)) }
     ensures err { OnErr result (Told (S.objects part.old) (S.objects part.new) (λ old new. Stands old digest.now links.old → Keeps old digest.now links.old new links.new)) }
     ensures missing { OnMissing result ⊥ }
+    ensures link { OnOk result (IsLink links.new name.now origin.now) }
 {
     relink(part, alloc, digest, links, name, Some(origin))?;
     empty_object(part, alloc, digest, name);

@@ -30,6 +30,7 @@ pub fn add<S: Store>(
         (bytes_by old digest.now (option_copied origin.entry) bytes.now) new links.new)) }
     ensures err { OnErr result (Told (S.objects part.old) (S.objects part.new) (λ old new. Stands old digest.now links.old → map.get links.old name.now ≡ None → Keeps old digest.now links.old new links.new)) }
     ensures missing { OnMissing result ⊥ }
+    ensures links { OnOk result (links.new ≡ map.insert links.old name.now (option_copied origin.entry)) }
 {
     let wanted = links.with(alloc, name, origin)?;
     put_record(part, alloc, digest, &wanted)?;

@@ -95,7 +95,7 @@ fn copy_at<S: Store>(part: &mut S, alloc: Global, from: &str, to: &str) -> Store
     }
 }
 
-/// Whether the object of a repository is there and has exactly these bytes. It is read in pieces of at most 65,536 bytes.
+/// Whether the object of a repository, which has one, has exactly these bytes. It is read in pieces of at most 65,536 bytes. A store whose answers contradict each other has failed.
 pub fn object_is<S: Store>(
     part: &mut S,
     alloc: Global,
@@ -103,6 +103,7 @@ pub fn object_is<S: Store>(
     name: &RepoName,
     bytes: &[u8],
 ) -> StoreResult<bool>
+    requires { IfSome (S.objects part.old) (λ told. IsSome (object_at told digest.now name.now)) }
     ensures cause { HasStoreCause (S.faults part.old) (S.faults part.new) result }
     ensures kept { S.objects part.new ≡ S.objects part.old }
     ensures ok { IfOk result (λ same. IfSome (S.objects part.old) (λ told. IsTrue same ↔ (object_at told digest.now name.now ≡ Some bytes.now))) }
@@ -112,16 +113,18 @@ pub fn object_is<S: Store>(
     is_at(part, alloc, path.as_str(), bytes)
 }
 
-// Whether there is an object at a path and it has exactly these bytes.
+// Whether the object at a path, which has one, has exactly these bytes.
 fn is_at<S: Store>(part: &mut S, alloc: Global, path: &str, bytes: &[u8]) -> StoreResult<bool>
+    requires { IfSome (S.objects part.old) (λ told. IsSome (map.get told path.now)) }
     ensures cause { HasStoreCause (S.faults part.old) (S.faults part.new) result }
     ensures kept { S.objects part.new ≡ S.objects part.old }
     ensures ok { IfOk result (λ same. IfSome (S.objects part.old) (λ told. IsTrue same ↔ (map.get told path.now ≡ Some bytes.now))) }
     ensures missing { OnMissing result ⊥ }
 {
     match has_bytes(part, alloc, path, bytes) {
-        Err(StoreError::Missing) => Ok(false),
-        compared => compared,
+        Ok(same) => Ok(same),
+        Err(StoreError::Missing) => Err(contradicted(part)),
+        Err(error) => Err(error),
     }
 }
 

@@ -2,7 +2,7 @@ use Rattle.std.proofs.Common.{sym, refl, ◌∙◌}
 use Rattle.std.specs.FinMap as map
 use Rattle.zot_links.proofs.HoldLemmas.{absent_from, bytes_added, bytes_of_link, bytes_replaced, err_so, link_from, whole_from, with_absent, with_linked}
 use Rattle.zot_links.proofs.PartLemmas.{ok_so}
-use Rattle.zot_links.proofs.WriteLemmas.{kept_still}
+use Rattle.zot_links.proofs.WriteLemmas.{kept_still, set_here}
 use Rattle.zot_links.specs.Changes.{Keeps}
 use Rattle.zot_links.proofs.holding.write_bytes.Goals as goal
 
@@ -33,3 +33,6 @@ returns-in-Whole-clause-ok g c =
 
 pub returns-in-Whole-clause-err : goal.returns-in-Whole-clause-err
 returns-in-Whole-clause-err g c = err_so c.put_object.result _ _ (kept_still (g.S.Store.objects c.args.part.now) (g.S.Store.objects c.put_object.new.part) c.args.digest.now c.args.links.now) c.put_object.ensures.err
+
+pub returns-in-Absent-clause-whole : goal.returns-in-Absent-clause-whole
+returns-in-Absent-clause-whole g c = ok_so c.add.result _ _ (set_here c.args.links.now c.add.new.links c.args.name.now _) c.add.ensures.links

@@ -3,6 +3,7 @@ use Rattle.std.specs.FinMap as map
 use Rattle.zot_links.proofs.HoldLemmas.{absent_from, err_so, link_from, whole_from, with_absent}
 use Rattle.zot_links.proofs.LinkingLemmas.{calls_of, link_added, link_moved, link_of_whole}
 use Rattle.zot_links.proofs.PartLemmas.{ok_so}
+use Rattle.zot_links.proofs.WriteLemmas.{set_here}
 use Rattle.zot_links.specs.Changes.{Keeps}
 use Rattle.zot_links.proofs.linking.write_link.Goals as goal
 
@@ -30,3 +31,9 @@ pub returns-in-Whole-clause-ok : goal.returns-in-Whole-clause-ok
 returns-in-Whole-clause-ok g c =
     ok_so c.make_link.result _ _ (link_of_whole (g.S.Store.objects c.args.part.now) (g.S.Store.objects c.make_link.new.part) c.args.digest.now c.args.links.now c.make_link.new.links c.args.name.now c.args.origin.now
     (whole_from (map.get c.args.links.now c.args.name.now) (sym c.form.ensures ∙ c.in-Whole.is))) c.make_link.ensures.ok
+
+pub returns-in-Absent-clause-link : goal.returns-in-Absent-clause-link
+returns-in-Absent-clause-link g c = ok_so c.add.result _ _ (set_here c.args.links.now c.add.new.links c.args.name.now _) c.add.ensures.links
+
+pub returns-in-Link-clause-link : goal.returns-in-Link-clause-link
+returns-in-Link-clause-link g c = ok_so c.relink.result _ _ (set_here c.args.links.now c.relink.new.links c.args.name.now _) c.relink.ensures.links
