@@ -1,8 +1,9 @@
 //! What a shard keeps of its digests in memory.
-ghost use Rattle.std.specs.Prelude.{◌≡◌, ◌≢◌, List, ℕ, IfOk, IfSome, IsSome, OnErr, OnOk, option_copied, option_map};
+ghost use Rattle.std.specs.Prelude.{◌≡◌, ◌≢◌, List, ℕ, true, IfOk, IfSome, IsSome, OnErr, OnOk, Some, option_copied, option_map};
 ghost use Rattle.std.specs.FinMap as map;
 ghost use Rattle.zot_outside.specs.Faults.{HasStoreCause, OnMissing};
-ghost use Rattle.zot_links.specs.Changes.{HasCallsCause, Keeps, Told};
+ghost use Rattle.zot_links.specs.Aims.{IsAimed};
+ghost use Rattle.zot_links.specs.Changes.{HasCallsCause, Keeps, Sets, Told};
 ghost use Rattle.zot_links.specs.Holding.{Releases};
 ghost use Rattle.zot_links.specs.Meaning.{held};
 ghost use Rattle.zot_contents.specs.Shards.{KeepsOnly, StandsAt, links_at};
@@ -11,7 +12,7 @@ use std::alloc::{AllocError, Global};
 use std::collections::BTreeMap;
 use std::marker::Model;
 use zot_digest::Digest;
-use zot_links::{Links, contents, release};
+use zot_links::{Links, attach, contents, release};
 use zot_names::RepoName;
 use zot_outside::{Store, StoreResult};
 
@@ -86,6 +87,34 @@ impl Digests {
         ensures { self.new ≡ map.remove self.old digest.now }
     {
         let _ = self.tree.remove(digest);
+    }
+
+    /// Sets what a repository holds under a digest that is kept, by `attach` of `zot_links`.
+    pub fn attach<S: Store>(
+        &mut self,
+        part: &mut S,
+        alloc: Global,
+        digest: &Digest,
+        dedupe: bool,
+        name: &RepoName,
+        bytes: &[u8],
+    ) -> StoreResult<()>
+        requires kept { IsSome (map.get self.old digest.now) }
+        requires stands { StandsAt (S.objects part.old) self.old digest.now }
+        ensures cause { HasCallsCause (S.faults part.old) (S.faults part.new) result }
+        ensures ok { OnOk result (Told (S.objects part.old) (S.objects part.new) (λ old new.
+            Sets (dedupe ≡ true) old digest.now (links_at self.old digest.now) name.now (Some bytes.now) new (links_at self.new digest.now))) }
+        ensures err { OnErr result (Told (S.objects part.old) (S.objects part.new) (λ old new.
+            Keeps old digest.now (links_at self.old digest.now) new (links_at self.new digest.now))) }
+        ensures missing { OnMissing result ⊥ }
+        ensures form { OnOk result (IfSome (S.objects part.old) (λ told. IsAimed dedupe told digest.now (links_at self.old digest.now) name.now bytes.now (links_at self.new digest.now))) }
+        ensures beside { (other : List ℕ) → other ≢ digest.now → links_at self.new other ≡ links_at self.old other }
+        ensures only { KeepsOnly self.old digest.now self.new }
+    {
+        match self.tree.get_mut(digest) {
+            Some(links) => attach(part, alloc, digest, links, dedupe, name, bytes),
+            None => unreachable!(),
+        }
     }
 
     /// Removes what a repository holds under a digest that is kept, by `release` of `zot_links`.
