@@ -1,0 +1,16 @@
+//! The sixteen shards of digests under one value, and the contract of an upstream.
+//!
+//! `MemoryUpstream::empty()` is an upstream that holds nothing.
+#![tactic(auto)]
+
+mod memory_upstream;
+mod opened;
+mod resolved;
+mod up_error;
+mod upstream;
+
+pub use crate::memory_upstream::MemoryUpstream;
+pub use crate::opened::Opened;
+pub use crate::resolved::Resolved;
+pub use crate::up_error::UpError;
+pub use crate::upstream::Upstream;
