@@ -1,4 +1,5 @@
 pub mod Pool
 pub mod Shards
 pub mod Holdings
+pub mod Listing
 pub mod Opening

@@ -1,6 +1,7 @@
 //! What a shard keeps of its digests in memory.
 ghost use Rattle.std.specs.Prelude.{◌≡◌, ◌≢◌, List, ℕ, true, IfOk, IfSome, IsSome, OnErr, OnOk, Some, option_copied, option_map};
 ghost use Rattle.std.specs.FinMap as map;
+ghost use Rattle.zot_digest.specs.ByteMap.{map_of};
 ghost use Rattle.zot_outside.specs.Faults.{HasStoreCause, OnMissing};
 ghost use Rattle.zot_links.specs.Aims.{IsAimed};
 ghost use Rattle.zot_links.specs.Changes.{HasCallsCause, Keeps, Sets, Told};
@@ -41,6 +42,13 @@ impl Digests {
         Digests {
             tree: BTreeMap::new(alloc),
         }
+    }
+
+    /// The digests in a tree, each with its holders.
+    pub fn tree(&self) -> &BTreeMap<Digest, Links>
+        ensures { map_of result.now.entries ≡ self.now }
+    {
+        &self.tree
     }
 
     /// The holders of a digest, if it is kept.

@@ -7,6 +7,7 @@ mod digests;
 mod holding;
 mod holding_list;
 mod layout_fault;
+mod listing;
 mod permit;
 mod pool_call;
 mod pool_reply;
