@@ -7,17 +7,10 @@ use zot_retention::{Compiled, Keep, KeepList, Policy, TagRow, WordsList, compile
 /// The built policy of these rules, with blanks between; `-` is no list of rules, `empty` a list without rules.
 pub fn built(answer: &mut Answer, rules: &str, delete_untagged: bool) -> Option<Compiled> {
     let alloc = answer.alloc();
-    let mut items = Vec::new(alloc);
-    if rules != "empty" && rules != "-" {
-        for rule in rules.split_whitespace() {
-            let rule = rule_of(answer, rule);
-            answer.keep(items.push(rule), ());
-        }
-    }
-    let keep = if rules == "-" {
-        None
-    } else {
-        Some(KeepList::new(items))
+    let keep = match rules {
+        "-" => None,
+        "empty" => Some(KeepList::new(Vec::new(alloc))),
+        _ => Some(rules_of(answer, rules)),
     };
     let policy = Policy {
         globs: WordsList::new(Vec::new(alloc)),
@@ -29,6 +22,16 @@ pub fn built(answer: &mut Answer, rules: &str, delete_untagged: bool) -> Option<
         return None;
     };
     Some(built)
+}
+
+// The rules of a list, with blanks between.
+fn rules_of(answer: &mut Answer, rules: &str) -> KeepList {
+    let mut items = Vec::new(answer.alloc());
+    for rule in rules.split_whitespace() {
+        let rule = rule_of(answer, rule);
+        answer.keep(items.push(rule), ());
+    }
+    KeepList::new(items)
 }
 
 // A rule: parts with commas between, a pattern and a count.
