@@ -1,3 +1,5 @@
 pub mod KeptLemmas
 pub mod ShardLemmas
 pub mod ListingLemmas
+pub mod HoldingLemmas
+pub mod AnswerLemmas

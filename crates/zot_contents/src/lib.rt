@@ -6,6 +6,7 @@
 mod digests;
 mod holding;
 mod holding_list;
+mod laws;
 mod layout_fault;
 mod listing;
 mod permit;
@@ -13,10 +14,12 @@ mod pool_call;
 mod pool_reply;
 mod shard;
 mod sharding;
+mod stepping;
 mod unopened;
 
 pub use crate::holding::Holding;
 pub use crate::holding_list::HoldingList;
+pub use crate::laws::tight_means;
 pub use crate::layout_fault::LayoutFault;
 pub use crate::permit::Permit;
 pub use crate::pool_call::PoolCall;
