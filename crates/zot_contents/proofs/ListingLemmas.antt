@@ -42,6 +42,10 @@ pushed (Some told) holding is made new same more = more ∙ ap (λ h. made ++ (h
 pub placed_more : {A : Type 0} (whole made added rest new : List A) → whole ≡ made ++ (added ++ rest) → new ≡ made ++ added → whole ≡ new ++ rest
 placed_more whole made added rest new all is = all ∙ sym (append_assoc made added rest) ∙ ap (λ l. l ++ rest) (sym is)
 
+-- behind the same beginning
+pub behind : {A : Type 0} (front a b : List A) → a ≡ b → front ++ a ≡ front ++ b
+behind front a b is = ap (λ l. front ++ l) is
+
 -- that of a holding which was added
 pub place_pushed : (made new : List Holding) (holding : Holding) (place : List ℕ × List ℕ) → place_of holding ≡ place → new ≡ made ++ (holding ∷ [])
     → map place_of new ≡ map place_of made ++ (place ∷ [])

@@ -2,11 +2,12 @@ use Rattle.std.proofs.Common.{rules, ◌≡◌, [], ◌∷◌, ◌++◌, ℕ, If
 use Rattle.std.specs.List.Sorted.{IsStrictlySortedBy}
 use Rattle.zot_digest.specs.ByteMap.{byte_cmp}
 use Rattle.zot_contents.specs.Listing.{holding_of, holdings_under, place_of, places_under}
-use Rattle.zot_contents.proofs.ListingLemmas.{alike_told, listed_more, place_pushed, placed_more, places_under_entries, pushed, under_entries}
+use Rattle.zot_contents.proofs.ListingLemmas.{alike_told, behind, listed_more, place_pushed, placed_more, places_under_entries, pushed, under_entries}
 use Rattle.zot_contents.proofs.listing.list_digest.Goals as goal
 
 pub loop-name-init : goal.loop-name-init
 loop-name-init g c =
+    let digest = c.args.digest.now in
     let given : c.into_iter-name-iterator.result ≡ c.tree.result.now.entries = search rules in
     let sorted : IsStrictlySortedBy byte_cmp (map (λ (e : List ℕ × Option (List ℕ)). e.0) c.tree.result.now.entries) = search rules in (
       refl,
@@ -15,9 +16,9 @@ loop-name-init g c =
           (λ told. ap (λ l. c.args.holdings.now.items ++ l)
           (under_entries told c.args.digest.now c.args.links.now c.tree.result.now.entries c.tree.ensures sorted
           ∙ ap (λ (l : List (List ℕ × Option (List ℕ))). map (λ e. holding_of told c.args.digest.now e.0) l) (sym given))),
-      ap (λ l. map place_of c.args.holdings.now.items ++ l)
-          (places_under_entries c.args.digest.now c.args.links.now c.tree.result.now.entries c.tree.ensures sorted
-          ∙ ap (λ (l : List (List ℕ × Option (List ℕ))). map (λ e. (c.args.digest.now, e.0)) l) (sym given)),
+      behind (map place_of c.args.holdings.now.items) (places_under digest c.args.links.now) (map (λ (e : List ℕ × Option (List ℕ)). (digest, e.0)) c.into_iter-name-iterator.result)
+          (places_under_entries digest c.args.links.now c.tree.result.now.entries c.tree.ensures sorted
+          ∙ ap (λ (l : List (List ℕ × Option (List ℕ))). map (λ e. (digest, e.0)) l) (sym given)),
     )
 
 pub loop-name-preserved : goal.loop-name-preserved
