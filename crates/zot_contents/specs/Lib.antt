@@ -4,3 +4,4 @@ pub mod Holdings
 pub mod Listing
 pub mod Opening
 pub mod Answers
+pub mod Places

@@ -9,13 +9,16 @@ mod holding_list;
 mod laws;
 mod layout_fault;
 mod listing;
+mod opening;
 mod permit;
+mod places;
 mod pool_call;
 mod pool_reply;
 mod shard;
 mod sharding;
 mod stepping;
 mod unopened;
+mod walking;
 
 pub use crate::holding::Holding;
 pub use crate::holding_list::HoldingList;
