@@ -1,3 +1,6 @@
 pub mod KeptLemmas
 pub mod ShardLemmas
 pub mod ListingLemmas
+pub mod PlaceLemmas
+pub mod WalkLemmas
+pub mod OpeningLemmas

@@ -8,12 +8,15 @@ mod holding;
 mod holding_list;
 mod layout_fault;
 mod listing;
+mod opening;
 mod permit;
+mod places;
 mod pool_call;
 mod pool_reply;
 mod shard;
 mod sharding;
 mod unopened;
+mod walking;
 
 pub use crate::holding::Holding;
 pub use crate::holding_list::HoldingList;
