@@ -3,4 +3,5 @@ pub mod Shards
 pub mod Holdings
 pub mod Listing
 pub mod Opening
+pub mod Answers
 pub mod Places

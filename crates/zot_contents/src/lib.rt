@@ -6,6 +6,7 @@
 mod digests;
 mod holding;
 mod holding_list;
+mod laws;
 mod layout_fault;
 mod listing;
 mod opening;
@@ -15,11 +16,13 @@ mod pool_call;
 mod pool_reply;
 mod shard;
 mod sharding;
+mod stepping;
 mod unopened;
 mod walking;
 
 pub use crate::holding::Holding;
 pub use crate::holding_list::HoldingList;
+pub use crate::laws::tight_means;
 pub use crate::layout_fault::LayoutFault;
 pub use crate::permit::Permit;
 pub use crate::pool_call::PoolCall;
