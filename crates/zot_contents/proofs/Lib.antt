@@ -1,3 +1,4 @@
 pub mod KeptLemmas
 pub mod ShardLemmas
 pub mod ListingLemmas
+pub mod HolderLemmas

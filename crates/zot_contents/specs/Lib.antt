@@ -3,3 +3,4 @@ pub mod Shards
 pub mod Holdings
 pub mod Listing
 pub mod Opening
+pub mod Holders
