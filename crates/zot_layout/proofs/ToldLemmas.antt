@@ -1,5 +1,5 @@
 -- What calls of the store do, where it tells its objects.
-use Rattle.std.proofs.Common.{◌≡◌, List, ℕ, Option, Some, None, option_map, Result, Ok, Err, refl, sym, ap, subst, ◌∙◌}
+use Rattle.std.proofs.Common.{◌≡◌, List, ℕ, IfSome, Option, Some, None, option_map, Result, Ok, Err, refl, sym, ap, subst, ◌∙◌}
 use Rattle.std.specs.Prelude.{OnErr, OnOk}
 use Rattle.zot_outside.specs.Objects.{ChangesAt, Deletes, IsMissing, Makes, Objects, Puts}
 use Rattle.zot_outside.proofs.ObjectLemmas.{changes-put, changes-remove}
@@ -62,3 +62,9 @@ told_then None mid after P Q R f h k = rest mid after h k where
 told_then (Some old) None after P Q R f h k = absurd h
 told_then (Some old) (Some x) None P Q R f h k = k
 told_then (Some old) (Some x) (Some new) P Q R f h k = f old x new h k
+
+-- a fact of the objects after a call, by one of those before it
+pub told_on : (before after : Option Objects) (F G : Objects → Type 0) (P : Objects → Objects → Type 0) → ((old new : Objects) → F old → P old new → G new) → Told before after P → IfSome before F → IfSome after G
+told_on None after F G P f kept have = subst (λ o. IfSome o G) (sym kept) tt
+told_on (Some old) None F G P f h have = tt
+told_on (Some old) (Some new) F G P f h have = f old new have h

@@ -11,7 +11,7 @@ use Rattle.serde_json.specs.Data.{Data, no_members, object, put, string}
 use Rattle.zot_media.specs.Fields.{◌>>=◌, document, text_of}
 use Rattle.zot_media.specs.Manifest.{is_text}
 use Rattle.zot_media.proofs.FieldLemmas.{document_some}
-use Rattle.zot_model.specs.State.{Becomes, RepoState, RowState, repo_at}
+use Rattle.zot_model.specs.State.{Becomes, RepoState, RowState, fresh, repo_at}
 use Rattle.zot_outside.specs.Objects.{ChangesAt, Objects, Puts}
 use Rattle.zot_layout.specs.Marker.{is_marker, marker_text}
 use Rattle.zot_layout.specs.Paths.{index_path, marker_path}
@@ -19,13 +19,13 @@ use Rattle.zot_layout.specs.Reading.{meaning}
 use Rattle.zot_layout.specs.Rows.{index_by, known_by, layout_by, layout_of}
 use Rattle.zot_layout.specs.Stands.{AreAlike, StandsFor, StandsForRow, opened_repo, repo_of}
 use Rattle.zot_layout.specs.State.{as_written}
-use Rattle.zot_layout.specs.Writing.{IsKnown, IsUnknown, KeepsElsewhere, KeepsLayouts, PutsIndex, SetsLayout, Told}
+use Rattle.zot_layout.specs.Writing.{IsKnown, IsUnknown, KeepsElsewhere, KeepsLayouts, PutsIndex, SetsLayout, StandsWhereTold, Told}
 use Rattle.zot_layout.specs.declared.index_state.IndexState.{IndexState}
 use Rattle.zot_layout.specs.declared.layout_error.LayoutError.{LayoutError}
 use Rattle.zot_layout.specs.declared.layout_error.LayoutError.TheVariants.{BadIndex}
 use Rattle.zot_layout.proofs.RowLemmas.{without_marker}
 use Rattle.zot_layout.proofs.StandsLemmas.{apart_paths, one_index, same_layout, stands_alike, without_sizes}
-use Rattle.zot_layout.proofs.ToldLemmas.{told_kept, told_put, told_so, told_then}
+use Rattle.zot_layout.proofs.ToldLemmas.{told_kept, told_on, told_put, told_so, told_then}
 use Rattle.zot_layout.proofs.WalkLemmas.{one_marker}
 
 -- ---- the marker that is written
@@ -219,42 +219,82 @@ known_for_nothing old mid new name found h k unknown =
 
 -- ---- the row
 
-module _ (old new : Objects) (moment : ℕ) (IsOwn : List ℕ → Type 0) (row after : RowState) (name : List ℕ) where
+module _ (old new : Objects) (moment : ℕ) (IsOwn : List ℕ → Type 0) (row : RowState) (name : List ℕ) where
   -- the repository whose layout was set
-  pub row_set : (found : Option IndexState) (repo : RepoState) → SetsLayout old name found new → AreAlike (repo_of found) repo → Becomes row name repo after → StandsForRow old moment IsOwn row → StandsForRow new moment IsOwn after
-  row_set found repo sets alike becomes all other own = split (bytes_eq other name) refl where
-    split : (b : Bool) → bytes_eq other name ≡ b → StandsFor new moment other (repo_at after other)
+  pub row_set : (later : RowState) (found : Option IndexState) (repo : RepoState) → AreAlike (repo_of found) repo → Becomes row name repo later → StandsForRow old moment IsOwn row → SetsLayout old name found new → StandsForRow new moment IsOwn later
+  row_set later found repo alike becomes all sets other own = split (bytes_eq other name) refl where
+    split : (b : Bool) → bytes_eq other name ≡ b → StandsFor new moment other (repo_at later other)
     split true tied =
-        subst (λ n. StandsFor new moment n (repo_at after n)) (sym ((bytes_eq-Decides other name).0 tied))
+        subst (λ n. StandsFor new moment n (repo_at later n)) (sym ((bytes_eq-Decides other name).0 tied))
         (subst (StandsFor new moment name) (sym becomes.here) (record { found = found; holds = sets.here moment; alike = alike }))
     split false tied =
         let apart : other ≡ name → ⊥ = λ same. true≢false (sym ((bytes_eq-Decides other name).1 same) ∙ tied) in
         let stood = all other own in
         subst (StandsFor new moment other) (sym (becomes.others other apart)) (record { found = stood.found; holds = sets.beside other apart moment ∙ stood.holds; alike = stood.alike })
 
+  -- with the sizes that are written
+  pub row_known : (later : RowState) (index : IndexState) (repo : RepoState) → AreAlike (opened_repo index) repo → Becomes row name repo later → StandsForRow old moment IsOwn row → SetsLayout old name (Some (as_written index)) new
+      → StandsForRow new moment IsOwn later
+  row_known later index repo alike = row_set later (Some (as_written index)) repo (subst (λ r. AreAlike r repo) (sym (without_sizes index)) alike)
+
+  -- an index was put of a repository that is known
+  pub row_put : (later : RowState) (index : IndexState) (repo : RepoState) → IsOwn name → (repo_at row name).known ≡ true → AreAlike (opened_repo index) repo → Becomes row name repo later → StandsForRow old moment IsOwn row
+      → PutsIndex old name (as_written index) new → StandsForRow new moment IsOwn later
+  row_put later index repo own known alike becomes all puts = row_known later index repo alike becomes all (puts.known (stands_known old moment name (repo_at row name) (all name own) known))
+
   -- no repository's layout has changed
-  pub row_kept : KeepsLayouts old name new → StandsForRow old moment IsOwn row → StandsForRow new moment IsOwn row
-  row_kept keeps all other own =
+  pub row_kept : IsOwn name → (repo_at row name).known ≡ false → StandsForRow old moment IsOwn row → (IsUnknown old name → KeepsLayouts old name new) → StandsForRow new moment IsOwn row
+  row_kept here unknown all keeps other own =
       let stood = all other own in
-      record { found = stood.found; holds = keeps.all other moment ∙ stood.holds; alike = stood.alike }
+      let kept = keeps (stands_unknown old moment name (repo_at row name) (all name here) unknown) in
+      record { found = stood.found; holds = kept.all other moment ∙ stood.holds; alike = stood.alike }
 
-  -- the repository changes in what isn't stored
-  pub row_alike : (repo : RepoState) → AreAlike (repo_at row name) repo → Becomes row name repo after → StandsForRow old moment IsOwn row → StandsForRow old moment IsOwn after
-  row_alike repo same becomes all other own = split (bytes_eq other name) refl where
-    split : (b : Bool) → bytes_eq other name ≡ b → StandsFor old moment other (repo_at after other)
-    split true tied =
-        let here : other ≡ name = (bytes_eq-Decides other name).0 tied in
-        subst (λ n. StandsFor old moment n (repo_at after n)) (sym here)
-        (subst (StandsFor old moment name) (sym becomes.here) (stands_alike old moment name (repo_at row name) repo (subst (λ n. StandsFor old moment n (repo_at row n)) here (all other own)) same))
-    split false tied =
-        subst (StandsFor old moment other) (sym (becomes.others other (λ same. true≢false (sym ((bytes_eq-Decides other name).1 same) ∙ tied)))) (all other own)
+-- the repository changes in what isn't stored
+pub row_alike : (objects : Objects) (moment : ℕ) (IsOwn : List ℕ → Type 0) (row later : RowState) (name : List ℕ) (repo : RepoState) → AreAlike (repo_at row name) repo → Becomes row name repo later → StandsForRow objects moment IsOwn row
+    → StandsForRow objects moment IsOwn later
+row_alike objects moment IsOwn row later name repo same becomes all other own = split (bytes_eq other name) refl where
+  split : (b : Bool) → bytes_eq other name ≡ b → StandsFor objects moment other (repo_at later other)
+  split true tied =
+      let here : other ≡ name = (bytes_eq-Decides other name).0 tied in
+      subst (λ n. StandsFor objects moment n (repo_at later n)) (sym here)
+      (subst (StandsFor objects moment name) (sym becomes.here) (stands_alike objects moment name (repo_at row name) repo (subst (λ n. StandsFor objects moment n (repo_at row n)) here (all other own)) same))
+  split false tied =
+      subst (StandsFor objects moment other) (sym (becomes.others other (λ same. true≢false (sym ((bytes_eq-Decides other name).1 same) ∙ tied)))) (all other own)
 
--- with the sizes that are written
-pub row_written_as : (old new : Objects) (moment : ℕ) (IsOwn : List ℕ → Type 0) (row after : RowState) (name : List ℕ) (index : IndexState) (repo : RepoState) → SetsLayout old name (Some (as_written index)) new
-    → AreAlike (opened_repo index) repo → Becomes row name repo after → StandsForRow old moment IsOwn row → StandsForRow new moment IsOwn after
-row_written_as old new moment IsOwn row after name index repo sets alike becomes all =
-    row_set old new moment IsOwn row after name (Some (as_written index)) repo sets (subst (λ r. AreAlike r repo) (sym (without_sizes index)) alike) becomes all
+-- ---- the row of a part that may tell its objects
 
--- a row in which nothing has changed
-pub row_same : (row : RowState) (name : List ℕ) → Becomes row name (repo_at row name) row
-row_same row name = record { here = refl; others = λ _ _. refl }
+module _ (before after : Option Objects) (moment : ℕ) (IsOwn : List ℕ → Type 0) (row : RowState) (name : List ℕ) where
+  abbrev Before : Type 0
+  Before = StandsWhereTold before moment IsOwn row
+
+  abbrev After : RowState → Type 0
+  After later = StandsWhereTold after moment IsOwn later
+
+  -- what a write makes of the objects makes the row that they stand for
+  by_told : (later : RowState) (P : Objects → Objects → Type 0) → ((old new : Objects) → StandsForRow old moment IsOwn row → P old new → StandsForRow new moment IsOwn later) → Told before after P → Before → After later
+  by_told later P = told_on before after (λ old. StandsForRow old moment IsOwn row) (λ new. StandsForRow new moment IsOwn later) P
+
+  pub told_put_row : (later : RowState) (index : IndexState) (repo : RepoState) → Told before after (λ old new. PutsIndex old name (as_written index) new) → IsOwn name → (repo_at row name).known ≡ true → AreAlike (opened_repo index) repo
+      → Becomes row name repo later → Before → After later
+  told_put_row later index repo h own known alike becomes =
+      by_told later (λ old new. PutsIndex old name (as_written index) new) (λ old new. row_put old new moment IsOwn row name later index repo own known alike becomes) h
+
+  pub told_same_row : (index : IndexState) → Told before after (λ old new. PutsIndex old name (as_written index) new) → IsOwn name → AreAlike (opened_repo index) (repo_at row name) → Before → After row
+  told_same_row index h own alike = told_put_row row index (repo_at row name) h own alike.known alike (record { here = refl; others = λ _ _. refl })
+
+  pub told_known_row : (later : RowState) (index : IndexState) (repo : RepoState) → Told before after (λ old new. SetsLayout old name (Some (as_written index)) new) → AreAlike (opened_repo index) repo → Becomes row name repo later → Before → After later
+  told_known_row later index repo h alike becomes =
+      by_told later (λ old new. SetsLayout old name (Some (as_written index)) new) (λ old new. row_known old new moment IsOwn row name later index repo alike becomes) h
+
+  pub told_unmarked_row : Told before after (λ old new. IsUnknown old name → KeepsLayouts old name new) → IsOwn name → (repo_at row name).known ≡ false → Before → After row
+  told_unmarked_row h own unknown =
+      by_told row (λ old new. IsUnknown old name → KeepsLayouts old name new) (λ old new. row_kept old new moment IsOwn row name own unknown) h
+
+  pub told_forgotten_row : (later : RowState) (repo : RepoState) → Told before after (λ old new. SetsLayout old name None new) → AreAlike fresh repo → Becomes row name repo later → Before → After later
+  told_forgotten_row later repo h alike becomes =
+      by_told later (λ old new. SetsLayout old name None new) (λ old new. row_set old new moment IsOwn row name later None repo alike becomes) h
+
+pub told_alike_row : (objects : Option Objects) (moment : ℕ) (IsOwn : List ℕ → Type 0) (row later : RowState) (name : List ℕ) (repo : RepoState) → AreAlike (repo_at row name) repo → Becomes row name repo later → StandsWhereTold objects moment IsOwn row
+    → StandsWhereTold objects moment IsOwn later
+told_alike_row None moment IsOwn row later name repo same becomes h = tt
+told_alike_row (Some told) moment IsOwn row later name repo same becomes h = row_alike told moment IsOwn row later name repo same becomes h

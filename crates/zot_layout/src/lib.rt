@@ -46,5 +46,5 @@ pub use crate::text::index_text;
 pub use crate::writing::{forget, make_known, put_index};
 pub use crate::written_laws::{
     a_layout_lies_at_two_paths, a_marker_tells_what_is_known, the_later_write_counts,
-    the_own_marker_is_read, what_is_written_is_the_rows, what_stays_is_the_rows,
+    the_own_marker_is_read, what_is_not_stored_leaves_the_row, what_is_written_is_the_rows,
 };

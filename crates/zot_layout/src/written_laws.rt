@@ -6,9 +6,9 @@ ghost use Rattle.zot_outside.specs.Objects.{Objects};
 ghost use Rattle.zot_layout.specs.Marker.{marker_meaning, marker_text};
 ghost use Rattle.zot_layout.specs.Paths.{index_path, marker_path};
 ghost use Rattle.zot_layout.specs.Rows.{IsOfRow, layout_of};
-ghost use Rattle.zot_layout.specs.Stands.{AreAlike, StandsFor, StandsForRow, opened_repo};
+ghost use Rattle.zot_layout.specs.Stands.{AreAlike, StandsFor, opened_repo};
 ghost use Rattle.zot_layout.specs.State.{as_written};
-ghost use Rattle.zot_layout.specs.Writing.{IsKnown, IsUnknown, KeepsLayouts, SetsLayout};
+ghost use Rattle.zot_layout.specs.Writing.{IsKnown, IsUnknown, KeepsLayouts, PutsIndex, SetsLayout, StandsWhereTold, Told};
 ghost use Rattle.zot_layout.specs.declared.index_state.IndexState.{IndexState as AState};
 
 /// The marker that is written is read as one.
@@ -37,20 +37,27 @@ pub fn the_later_write_counts()
     ensures forgotten { (old mid new : Objects) (name : List ℕ) (found : Option AState) → SetsLayout old name found mid → SetsLayout mid name None new → IsUnknown old name → KeepsLayouts old name new }
 {}
 
-/// A row has what was written of a repository: its manifests and tags, or that it isn't known. An index that says what the row has already leaves the row.
+/// The row that a part stands for after a write of a repository has what was written of it: its manifests and tags, or that it isn't known. An index that says what the row has already leaves the row, and so does a repository that couldn't be made known.
 pub fn what_is_written_is_the_rows()
-    ensures known { (old new : Objects) (moment members number : ℕ) (key : List ℕ) (row after : RowState) (name : List ℕ) (index : AState) (repo : RepoState) → SetsLayout old name (Some (as_written index)) new → AreAlike (opened_repo index) repo
-        → Becomes row name repo after → StandsForRow old moment (IsOfRow key members number) row → StandsForRow new moment (IsOfRow key members number) after }
-    ensures forgotten { (old new : Objects) (moment members number : ℕ) (key : List ℕ) (row after : RowState) (name : List ℕ) (repo : RepoState) → SetsLayout old name None new → AreAlike fresh repo
-        → Becomes row name repo after → StandsForRow old moment (IsOfRow key members number) row → StandsForRow new moment (IsOfRow key members number) after }
-    ensures same { (old new : Objects) (moment members number : ℕ) (key : List ℕ) (row : RowState) (name : List ℕ) (index : AState) → SetsLayout old name (Some (as_written index)) new → AreAlike (opened_repo index) (repo_at row name)
-        → StandsForRow old moment (IsOfRow key members number) row → StandsForRow new moment (IsOfRow key members number) row }
+    ensures put { (before after : Option Objects) (moment members number : ℕ) (key : List ℕ) (row later : RowState) (name : List ℕ) (index : AState) (repo : RepoState) → Told before after (λ old new. PutsIndex old name (as_written index) new)
+        → IsOfRow key members number name → (repo_at row name).known ≡ true → AreAlike (opened_repo index) repo → Becomes row name repo later
+        → StandsWhereTold before moment (IsOfRow key members number) row → StandsWhereTold after moment (IsOfRow key members number) later }
+    ensures same { (before after : Option Objects) (moment members number : ℕ) (key : List ℕ) (row : RowState) (name : List ℕ) (index : AState) → Told before after (λ old new. PutsIndex old name (as_written index) new)
+        → IsOfRow key members number name → AreAlike (opened_repo index) (repo_at row name)
+        → StandsWhereTold before moment (IsOfRow key members number) row → StandsWhereTold after moment (IsOfRow key members number) row }
+    ensures known { (before after : Option Objects) (moment members number : ℕ) (key : List ℕ) (row later : RowState) (name : List ℕ) (index : AState) (repo : RepoState) → Told before after (λ old new. SetsLayout old name (Some (as_written index)) new)
+        → AreAlike (opened_repo index) repo → Becomes row name repo later
+        → StandsWhereTold before moment (IsOfRow key members number) row → StandsWhereTold after moment (IsOfRow key members number) later }
+    ensures unmarked { (before after : Option Objects) (moment members number : ℕ) (key : List ℕ) (row : RowState) (name : List ℕ) → Told before after (λ old new. IsUnknown old name → KeepsLayouts old name new)
+        → IsOfRow key members number name → (repo_at row name).known ≡ false
+        → StandsWhereTold before moment (IsOfRow key members number) row → StandsWhereTold after moment (IsOfRow key members number) row }
+    ensures forgotten { (before after : Option Objects) (moment members number : ℕ) (key : List ℕ) (row later : RowState) (name : List ℕ) (repo : RepoState) → Told before after (λ old new. SetsLayout old name None new)
+        → AreAlike fresh repo → Becomes row name repo later
+        → StandsWhereTold before moment (IsOfRow key members number) row → StandsWhereTold after moment (IsOfRow key members number) later }
 {}
 
-/// Layouts that stay stand for the same row, and for one in which a repository is alike in what is stored of it.
-pub fn what_stays_is_the_rows()
-    ensures kept { (old new : Objects) (moment members number : ℕ) (key : List ℕ) (row : RowState) (name : List ℕ) → KeepsLayouts old name new → StandsForRow old moment (IsOfRow key members number) row
-        → StandsForRow new moment (IsOfRow key members number) row }
-    ensures alike { (objects : Objects) (moment members number : ℕ) (key : List ℕ) (row after : RowState) (name : List ℕ) (repo : RepoState) → AreAlike (repo_at row name) repo → Becomes row name repo after
-        → StandsForRow objects moment (IsOfRow key members number) row → StandsForRow objects moment (IsOfRow key members number) after }
+/// A part stands for a row also after a repository changed in what no row's part stores.
+pub fn what_is_not_stored_leaves_the_row()
+    ensures { (objects : Option Objects) (moment members number : ℕ) (key : List ℕ) (row later : RowState) (name : List ℕ) (repo : RepoState) → AreAlike (repo_at row name) repo → Becomes row name repo later
+        → StandsWhereTold objects moment (IsOfRow key members number) row → StandsWhereTold objects moment (IsOfRow key members number) later }
 {}
