@@ -6,3 +6,4 @@ pub mod AnswerLemmas
 pub mod PlaceLemmas
 pub mod WalkLemmas
 pub mod OpeningLemmas
+pub mod HolderLemmas

@@ -12,16 +12,16 @@ use Rattle.std.proofs.lemmas.Bool.{true≢false}
 use Rattle.std.proofs.lemmas.Cmp.{tied_itself}
 use Rattle.zot_digest.specs.ByteMap.{byte_cmp, map_of}
 use Rattle.zot_maps.proofs.Entries.{AllFound, all_found}
-use Rattle.zot_maps.proofs.Maps.{byte_order, get_elsewhere, get_here, other_key}
+use Rattle.zot_maps.proofs.Maps.{byte_order, other_key}
 use Rattle.zot_names.specs.Name.{IsName}
 use Rattle.zot_outside.specs.Objects.{Objects}
 use Rattle.zot_links.proofs.MeaningLemmas.{stands_means}
 use Rattle.zot_links.proofs.StandLemmas.{decide}
-use Rattle.zot_links.specs.Meaning.{HasMeaning, IsLink, IsWhole, Links, Stands, line_at, object_at, origin_of, record_at, record_in, record_path}
+use Rattle.zot_links.specs.Meaning.{IsWhole, Links, Stands, line_at, origin_of, record_at, record_in, record_path}
 use Rattle.zot_links.specs.Opening.{HasObjects, LacksMeaning}
 use Rattle.zot_contents.proofs.KeptLemmas.{none_kept, set_beside, set_here, set_only}
 use Rattle.zot_contents.specs.Opening.{AreFound, HaveMeaning, IsFirstBad, OnBadMeta, WhereFound}
-use Rattle.zot_contents.specs.Shards.{AllOwn, AllStand, AreTight, IsOfShard, IsTightTree, KeepsOnly, Kept, links_at}
+use Rattle.zot_contents.specs.Shards.{AllStand, AreTight, IsOfShard, IsTightTree, KeepsOnly, Kept, links_at}
 use Rattle.zot_contents.specs.declared.layout_fault.LayoutFault.{LayoutFault}
 use Rattle.zot_contents.specs.declared.layout_fault.LayoutFault.TheVariants as faults
 

@@ -5,3 +5,4 @@ pub mod Listing
 pub mod Opening
 pub mod Answers
 pub mod Places
+pub mod Holders

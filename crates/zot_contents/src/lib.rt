@@ -4,6 +4,7 @@
 #![tactic(auto)]
 
 mod digests;
+mod holder_laws;
 mod holding;
 mod holding_list;
 mod laws;
@@ -20,6 +21,9 @@ mod stepping;
 mod unopened;
 mod walking;
 
+pub use crate::holder_laws::{
+    changes_are_local, holders_follow, own_entries_are_a_run, owner_decides, shards_answer_as_one,
+};
 pub use crate::holding::Holding;
 pub use crate::holding_list::HoldingList;
 pub use crate::laws::tight_means;

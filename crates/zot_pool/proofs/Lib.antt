@@ -1,1 +1,2 @@
 pub mod UpstreamLemmas
+pub mod PoolLemmas

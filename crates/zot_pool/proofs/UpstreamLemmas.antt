@@ -1,5 +1,5 @@
 -- An upstream that holds nothing.
-use Rattle.std.proofs.Common.{◌≡◌, ℕ, List, Option, None, refl, sym, subst, ap, ◌∙◌}
+use Rattle.std.proofs.Common.{◌≡◌, ℕ, List, Option, None, refl, sym, subst, ap}
 use Rattle.std.specs.Prelude.{IsSome, option_map}
 use Rattle.std.specs.FinMap as map
 use Rattle.zot_digest.specs.ByteMap.{byte_cmp}
@@ -9,7 +9,6 @@ use Rattle.zot_media.specs.declared.reference.Reference.{Reference}
 use Rattle.zot_media.specs.declared.reference.Reference.TheVariants as by
 use Rattle.zot_pool.specs.Upstreams.{HasNoTagAfter, Opens, UpManifest, content_at, empty_repo, empty_state, found_at, found_under, resolved}
 use Rattle.zot_pool.specs.declared.opened.Opened.TheVariants as opens
-use Rattle.zot_pool.specs.declared.resolved.Resolved.{Resolved}
 use Rattle.zot_pool.specs.declared.resolved.Resolved.TheVariants as finds
 
 -- no reference stands for anything

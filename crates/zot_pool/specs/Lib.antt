@@ -1,2 +1,4 @@
 pub mod Faults
 pub mod Upstreams
+pub mod Pools
+pub mod Answers

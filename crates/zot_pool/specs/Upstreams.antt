@@ -1,5 +1,5 @@
 -- What an upstream holds, and what its calls answer, where it tells.
-use Rattle.std.specs.Prelude.{◌≡◌, ◌≢◌, ℕ, ◌≤◌, List, [], length, take, drop, min, Option, Some, None, IfSome, IsSome, MatchOption, option_map, ⊤}
+use Rattle.std.specs.Prelude.{◌≡◌, ◌≢◌, ℕ, List, [], length, take, drop, min, Option, Some, None, IfSome, IsSome, MatchOption, option_map, ⊤}
 use Rattle.std.specs.FinMap as map
 use Rattle.std.specs.declared.cmp.Ordering.TheVariants.{Less}
 use Rattle.zot_digest.specs.ByteMap.{ByteMap, byte_cmp}

@@ -3,14 +3,19 @@
 //! `MemoryUpstream::empty()` is an upstream that holds nothing.
 #![tactic(auto)]
 
+mod answers;
 mod memory_upstream;
 mod opened;
+mod pool;
+mod pool_error;
 mod resolved;
 mod up_error;
 mod upstream;
 
 pub use crate::memory_upstream::MemoryUpstream;
 pub use crate::opened::Opened;
+pub use crate::pool::Pool;
+pub use crate::pool_error::PoolError;
 pub use crate::resolved::Resolved;
 pub use crate::up_error::UpError;
 pub use crate::upstream::Upstream;

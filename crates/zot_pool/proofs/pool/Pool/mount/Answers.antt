@@ -1,0 +1,61 @@
+use Rattle.std.proofs.Common.{set, sym, subst, ◌∙◌}
+use Rattle.std.specs.Result.{result_err}
+use Rattle.zot_links.specs.Changes.{Told}
+use Rattle.zot_links.specs.Meaning.{held}
+use Rattle.zot_contents.specs.Pool.{AreSame, Gives, plain_mount, size_of}
+use Rattle.zot_contents.proofs.HolderLemmas.{mount_of_all, same_of_all}
+use Rattle.zot_pool.proofs.PoolLemmas.{both_hold, calls_cause, number_is, of_shard_within, pooled_each, pooled_err, set_beside, still_numbered, still_tight}
+use Rattle.zot_pool.specs.Pools.{BothHold, ChangesOnly, HasPoolCause, faults_of, holds, objects_of}
+use Rattle.zot_pool.proofs.pool.Pool.mount.Goals as goal
+
+pub mount-requires : goal.mount-requires
+mount-requires g c =
+    let xs = c.args.self.now.shards.items in
+    let x = c.index_mut-shard.result.now in
+    let within = of_shard_within xs c.shard_of.result c.args.digest.now c.args.self.now.numbered c.shard_of.ensures.digest in
+    (c.shard_of.ensures.digest.0, c.shard_of.ensures.digest.1 ∙ sym (number_is xs c.shard_of.result x x within c.index_mut-shard.ensures.value c.args.self.now.numbered))
+
+pub invariant_of-self : goal.invariant_of-self
+invariant_of-self g c =
+    let xs = c.args.self.now.shards.items in
+    let within = of_shard_within xs c.shard_of.result c.args.digest.now c.args.self.now.numbered c.shard_of.ensures.digest in
+    record { numbered = still_numbered xs c.shard_of.result c.index_mut-shard.result.now c.mount.new.self within c.index_mut-shard.ensures.value c.args.self.now.numbered c.mount.ensures.number }
+
+pub returns-clause-cause : goal.returns-clause-cause
+returns-clause-cause g c =
+    let xs = c.args.self.now.shards.items in
+    let within = of_shard_within xs c.shard_of.result c.args.digest.now c.args.self.now.numbered c.shard_of.ensures.digest in
+    subst (λ i. HasPoolCause i (faults_of xs) (faults_of (set xs c.shard_of.result c.mount.new.self)) (result_err c.pooled.result)) c.shard_of.ensures.value
+    (calls_cause xs c.shard_of.result c.index_mut-shard.result.now c.mount.new.self within c.index_mut-shard.ensures.value c.mount.result c.pooled.result c.pooled.ensures c.mount.ensures.missing c.mount.ensures.cause)
+
+pub returns-clause-ok : goal.returns-clause-ok
+returns-clause-ok g c =
+    let xs = c.args.self.now.shards.items in
+    let within = of_shard_within xs c.shard_of.result c.args.digest.now c.args.self.now.numbered c.shard_of.ensures.digest in
+    pooled_each c.mount.result c.pooled.result
+    (λ size. Told (g.S.Store.objects c.index_mut-shard.result.now.part) (g.S.Store.objects c.mount.new.self.part) (λ old new. Gives (plain_mount (held old) c.args.name.now c.args.from.now c.args.digest.now) (size_of size) (held new)))
+    (λ size. BothHold (holds (objects_of xs)) (holds (objects_of (set xs c.shard_of.result c.mount.new.self))) (λ old new. Gives (plain_mount old c.args.name.now c.args.from.now c.args.digest.now) (size_of size) new))
+    c.pooled.ensures
+    (λ size told. both_hold xs c.shard_of.result c.index_mut-shard.result.now c.mount.new.self within c.index_mut-shard.ensures.value
+    (λ old new. Gives (plain_mount old c.args.name.now c.args.from.now c.args.digest.now) (size_of size) new) (λ old new. Gives (plain_mount (held old) c.args.name.now c.args.from.now c.args.digest.now) (size_of size) (held new)) told
+    (λ old new before after covers then_covers others gives. mount_of_all c.shard_of.result (held old) (held new) before after covers then_covers others c.args.name.now c.args.from.now c.args.digest.now (size_of size) c.shard_of.ensures.digest gives))
+    c.mount.ensures.ok
+
+pub returns-clause-err : goal.returns-clause-err
+returns-clause-err g c =
+    let xs = c.args.self.now.shards.items in
+    let within = of_shard_within xs c.shard_of.result c.args.digest.now c.args.self.now.numbered c.shard_of.ensures.digest in
+    pooled_err c.mount.result c.pooled.result _ _ c.pooled.ensures
+    (λ told. both_hold xs c.shard_of.result c.index_mut-shard.result.now c.mount.new.self within c.index_mut-shard.ensures.value AreSame (λ old new. AreSame (held old) (held new)) told
+    (λ old new before after covers then_covers others same. same_of_all c.shard_of.result (held old) (held new) before after covers then_covers others same))
+    c.mount.ensures.err
+
+pub returns-clause-beside : goal.returns-clause-beside
+returns-clause-beside g c =
+    subst (λ i. ChangesOnly i c.args.self.now.shards.items (set c.args.self.now.shards.items c.shard_of.result c.mount.new.self)) c.shard_of.ensures.value (set_beside c.args.self.now.shards.items c.shard_of.result c.mount.new.self)
+
+pub returns-clause-tight : goal.returns-clause-tight
+returns-clause-tight g c deduped tight =
+    let xs = c.args.self.now.shards.items in
+    let within = of_shard_within xs c.shard_of.result c.args.digest.now c.args.self.now.numbered c.shard_of.ensures.digest in
+    still_tight xs c.shard_of.result c.index_mut-shard.result.now c.mount.new.self within c.index_mut-shard.ensures.value c.mount.ensures.tight c.mount.ensures.number deduped tight
