@@ -1,4 +1,3 @@
-use Rattle.std.proofs.Common.{◌∙◌, ap}
 use Rattle.zot_proxy.proofs.ForwardLemmas.{joined, read}
 use Rattle.zot_proxy.proofs.forwarding.forwarded.Goals as goal
 
