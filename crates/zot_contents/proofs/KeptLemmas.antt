@@ -11,6 +11,7 @@ use Rattle.zot_maps.proofs.Entries.{Writes, map_written}
 use Rattle.zot_maps.proofs.Maps.{byte_order, found_at, get_elsewhere, get_here, removed_elsewhere, removed_here}
 use Rattle.zot_links.proofs.StandLemmas.{decide}
 use Rattle.zot_links.specs.Meaning.{Links}
+use Rattle.zot_contents.specs.Opening.{with_holder}
 use Rattle.zot_contents.specs.Shards.{AllOwn, IsOfShard, KeepsOnly, Kept, links_at}
 
 -- a digest that was set is kept, with these holders
@@ -111,3 +112,21 @@ own_after number kept first second later digest is one two three own other has =
   | inl same ↦ subst (λ d. IsOfShard number d) (sym same) is
   | inr apart ↦ own other (one other (two other (three other has apart) apart) apart)
 ]
+
+-- ---- an object is noted
+
+pub noted_written : {T E : Type 0} (r : Result T E) (es fs : Entries) (kept : Kept) (digest : List ℕ) (found links : Links) (name : Option (List ℕ)) → map_of es ≡ kept
+    → Some found ≡ lookup (is_at (byte_cmp digest)) es → Writes byte_order es fs digest links → OnOk r (links ≡ with_holder found name)
+    → OnOk r (map_of fs ≡ map.insert kept digest (with_holder (links_at kept digest) name))
+noted_written (Ok x) es fs kept digest found links name is has writes same =
+    map_written byte_order es fs kept digest found links is has writes ∙ ap (map.insert kept digest) (same ∙ ap (λ l. with_holder l name) (sym (found_links es kept digest found is has)))
+noted_written (Err e) es fs kept digest found links name is has writes same = tt
+
+pub noted_new : {T E : Type 0} (r : Result T E) (es : Entries) (kept old new : Kept) (digest : List ℕ) (empty links : Links) (name : Option (List ℕ)) → map_of es ≡ kept → old ≡ map_of es
+    → None ≡ lookup (is_at (byte_cmp digest)) es → empty ≡ map.empty → links ≡ with_holder empty name → OnOk r (new ≡ map.insert old digest links)
+    → OnOk r (new ≡ map.insert kept digest (with_holder (links_at kept digest) name))
+noted_new (Ok x) es kept old new digest empty links name is was none from same set =
+    set
+    ∙ ap (λ (m : Kept). map.insert m digest links) (was ∙ is)
+    ∙ ap (map.insert kept digest) (same ∙ ap (λ l. with_holder l name) (from ∙ sym (none_kept kept digest (found_at byte_order es kept digest None is none))))
+noted_new (Err e) es kept old new digest empty links name is was none from same set = tt

@@ -4,3 +4,4 @@ pub mod Holdings
 pub mod Listing
 pub mod Opening
 pub mod Holders
+pub mod Places

@@ -7,6 +7,7 @@ ghost use Rattle.zot_links.specs.Aims.{IsAimed};
 ghost use Rattle.zot_links.specs.Changes.{HasCallsCause, Keeps, Sets, Told};
 ghost use Rattle.zot_links.specs.Holding.{Releases};
 ghost use Rattle.zot_links.specs.Meaning.{held};
+ghost use Rattle.zot_contents.specs.Opening.{with_holder};
 ghost use Rattle.zot_contents.specs.Shards.{KeepsOnly, StandsAt, links_at};
 
 use std::alloc::{AllocError, Global};
@@ -77,6 +78,25 @@ impl Digests {
             return Ok(());
         }
         self.set(*digest, Links::new(alloc))
+    }
+
+    /// Keeps a digest, with one more holder that is whole, where one is named.
+    pub fn note(
+        &mut self,
+        alloc: Global,
+        digest: Digest,
+        name: Option<RepoName>,
+    ) -> Result<(), AllocError>
+        ensures { OnOk result (self.new ≡ map.insert self.old digest (with_holder (links_at self.old digest) name)) }
+    {
+        match self.tree.get_mut(&digest) {
+            Some(links) => add(links, name),
+            None => {
+                let mut links = Links::new(alloc);
+                add(&mut links, name)?;
+                self.set(digest, links)
+            }
+        }
     }
 
     /// Lets a digest go that has no holders.
@@ -167,5 +187,15 @@ impl Digests {
         let none = Links::new(alloc);
         let links = self.get(digest).unwrap_or(&none);
         contents(part, alloc, digest, links, name)
+    }
+}
+
+// Adds a holder that is whole, where one is named.
+fn add(links: &mut Links, name: Option<RepoName>) -> Result<(), AllocError>
+    ensures { OnOk result (links.new ≡ with_holder links.old name) }
+{
+    match name {
+        Some(name) => links.set(name, None),
+        None => Ok(()),
     }
 }

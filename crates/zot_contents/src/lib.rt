@@ -9,12 +9,15 @@ mod holding;
 mod holding_list;
 mod layout_fault;
 mod listing;
+mod opening;
 mod permit;
+mod places;
 mod pool_call;
 mod pool_reply;
 mod shard;
 mod sharding;
 mod unopened;
+mod walking;
 
 pub use crate::holder_laws::{
     changes_are_local, holders_follow, own_entries_are_a_run, owner_decides, shards_answer_as_one,

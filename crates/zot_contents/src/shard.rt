@@ -18,10 +18,10 @@ use zot_outside::{Store, StoreResult};
 /// A shard of digests over a part of the store: who holds which bytes under each of its digests. What is held is a function of the part's objects; in memory it has who the holders are, and which of them are links.
 #[derive(Drop)]
 pub struct DigestShard<S: Store> {
-    part: S,
-    number: u32,
-    dedupe: bool,
-    digests: Digests,
+    pub(crate) part: S,
+    pub(crate) number: u32,
+    pub(crate) dedupe: bool,
+    pub(crate) digests: Digests,
     ghost own: { AllOwn number digests } by { Prim.hlevel props },
     ghost stand: { AllStand (S.objects part) number digests } by { Prim.hlevel props },
 }

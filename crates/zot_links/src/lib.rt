@@ -34,6 +34,7 @@ pub use crate::links::{Links, Tree};
 pub use crate::links_error::LinksError;
 pub use crate::opening::open_links;
 pub use crate::part::object_is;
+pub use crate::paths::record_path;
 pub use crate::reading::read_record;
 pub use crate::record::record_text;
 pub use crate::record_error::RecordError;
