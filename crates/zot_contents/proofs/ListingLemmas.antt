@@ -1,6 +1,7 @@
 -- The list of what is held, as it is made.
 use Rattle.std.proofs.Common.{◌≡◌, ℕ, append_assoc, List, [], ◌∷◌, ◌++◌, map, Option, Some, None, IfSome, refl, sym, ap, subst, ◌∙◌}
 use Rattle.std.specs.Prelude.{IsSome, unwrap_or}
+use Rattle.std.proofs.lemmas.List.{map-append}
 use Rattle.std.specs.FinMap as finite
 use Rattle.std.specs.FinMap.{get-entries}
 use Rattle.std.specs.FinMap.Entries.{find}
@@ -11,7 +12,7 @@ use Rattle.zot_maps.proofs.Entries.{AllFound, all_found, entries_of_map}
 use Rattle.zot_maps.proofs.Maps.{byte_order}
 use Rattle.zot_outside.specs.Objects.{Objects}
 use Rattle.zot_links.specs.Meaning.{Links, StandsWhereTold}
-use Rattle.zot_contents.specs.Listing.{holding_of, holdings_of, holdings_under}
+use Rattle.zot_contents.specs.Listing.{holding_of, holdings_of, holdings_under, place_of, places_of, places_under}
 use Rattle.zot_contents.specs.Shards.{Kept, StandsAt}
 use Rattle.zot_contents.specs.declared.holding.Holding.{Holding}
 
@@ -35,6 +36,21 @@ pub pushed : (objects : Option Objects) (holding : Holding) (is : Objects → Ho
 pushed None holding is made new same more = tt
 pushed (Some told) holding is made new same more = more ∙ ap (λ h. made ++ (h ∷ [])) same
 
+-- ---- places
+
+-- those that were added are no longer left
+pub placed_more : {A : Type 0} (whole made added rest new : List A) → whole ≡ made ++ (added ++ rest) → new ≡ made ++ added → whole ≡ new ++ rest
+placed_more whole made added rest new all is = all ∙ sym (append_assoc made added rest) ∙ ap (λ l. l ++ rest) (sym is)
+
+-- behind the same beginning
+pub behind : {A : Type 0} (front a b : List A) → a ≡ b → front ++ a ≡ front ++ b
+behind front a b is = ap (λ l. front ++ l) is
+
+-- that of a holding which was added
+pub place_pushed : (made new : List Holding) (holding : Holding) (place : List ℕ × List ℕ) → place_of holding ≡ place → new ≡ made ++ (holding ∷ [])
+    → map place_of new ≡ map place_of made ++ (place ∷ [])
+place_pushed made new holding place is more = ap (map place_of) more ∙ map-append place_of made (holding ∷ []) ∙ ap (λ p. map place_of made ++ (p ∷ [])) is
+
 -- ---- the entries of trees
 
 -- the holders of a digest, by the entries of their tree
@@ -48,6 +64,17 @@ pub of_entries : (told : Objects) (kept : Kept) (es : List (List ℕ × Links)) 
     → holdings_of told kept ≡ flat_map (λ e. holdings_under told e.0 e.1) es
 of_entries told kept es is sorted =
     ap (λ (l : List (List ℕ × Links)). flat_map (λ e. holdings_under told e.0 e.1) l) (ap finite.entries (sym is) ∙ entries_of_map byte_order es sorted)
+
+-- their places
+pub places_under_entries : (digest : List ℕ) (links : Links) (es : List (List ℕ × Option (List ℕ))) → map_of es ≡ links → IsStrictlySortedBy byte_cmp (map (λ e. e.0) es)
+    → places_under digest links ≡ map (λ e. (digest, e.0)) es
+places_under_entries digest links es is sorted =
+    ap (λ (l : List (List ℕ × Option (List ℕ))). map (λ e. (digest, e.0)) l) (ap finite.entries (sym is) ∙ entries_of_map byte_order es sorted)
+
+pub places_of_entries : (kept : Kept) (es : List (List ℕ × Links)) → map_of es ≡ kept → IsStrictlySortedBy byte_cmp (map (λ e. e.0) es)
+    → places_of kept ≡ flat_map (λ e. places_under e.0 e.1) es
+places_of_entries kept es is sorted =
+    ap (λ (l : List (List ℕ × Links)). flat_map (λ e. places_under e.0 e.1) l) (ap finite.entries (sym is) ∙ entries_of_map byte_order es sorted)
 
 -- the holders of each digest that is kept stand
 stand_among : (objects : Option Objects) (kept : Kept) (all es : List (List ℕ × Links)) → finite.entries kept ≡ all → AllFound byte_order all es

@@ -1,21 +1,19 @@
 -- What a change at one digest is for a whole shard.
-use Rattle.std.proofs.Common.{◌≡◌, ◌≢◌, ℕ, inl, inr, Bool, true, false, List, Option, Some, None, is_some, IfSome, refl, sym, ap, subst, ◌∙◌}
-use Rattle.std.specs.Prelude.{IfOk, IsSome, Result, Ok, Err, OnErr, OnOk, if◌then◌else◌}
+use Rattle.std.proofs.Common.{◌≡◌, ◌≢◌, ℕ, inl, inr, Bool, List, Option, Some, None, is_some, refl, sym, ap, subst, ◌∙◌}
+use Rattle.std.specs.Prelude.{IfOk, IsSome, Result, Ok, Err, OnErr, if◌then◌else◌}
 use Rattle.std.specs.FinMap as map
-use Rattle.std.specs.Str.{bytes_eq}
 use Rattle.zot_digest.specs.Digest.{IsDigest}
 use Rattle.zot_names.specs.Name.{IsName}
 use Rattle.zot_outside.specs.Objects.{Objects}
 use Rattle.zot_links.proofs.MeaningLemmas.{held_local}
-use Rattle.zot_links.proofs.PartLemmas.{either}
 use Rattle.zot_links.proofs.StandLemmas.{decide, eq_false, eq_true}
 use Rattle.zot_links.proofs.ToldLemmas.{told_so}
 use Rattle.zot_links.specs.Changes.{Keeps, KeepsOthers, Sets, Told, Turns, with_held}
 use Rattle.zot_links.specs.Holding.{Releases}
-use Rattle.zot_links.specs.Meaning.{IsTight, IsWhole, Links, Stands, held, line_among, line_at, object_at, origin_of, record_at, record_in, record_path}
+use Rattle.zot_links.specs.Meaning.{IsTight, IsWhole, Links, Stands, held, line_among, line_at, object_at, origin_of, record_at, record_in}
 use Rattle.zot_contents.specs.Pool.{AreSame, Gives, plain_attach, plain_detach, with_bytes}
 use Rattle.zot_contents.specs.declared.pool_reply.PoolReply.TheVariants.{Done, Removed}
-use Rattle.zot_contents.specs.Shards.{AllStand, AreTight, IsOfShard, Kept, StandsAt, links_at}
+use Rattle.zot_contents.specs.Shards.{AllStand, AreTight, IsOfShard, IsTightTree, IsWholeObject, Kept, links_at}
 
 -- ---- another digest
 
@@ -156,3 +154,20 @@ module _ (before after : Option Objects) (digest name : List ℕ) (links new_lin
   detached =
       told_so before after (λ old new. Releases was old digest links name new new_links) (λ old new. Gives (plain_detach (held old) name digest) (Removed was) (held new))
       (λ old new r. record { reply_is = ap Removed r.was; held_is = sets_bytes old new digest name None r.sets.holds r.sets.elsewhere }) told
+
+-- ---- equal bytes
+
+-- a holder whose line names no origin is whole
+whole_of : (holder : Option (Option (List ℕ))) → IsSome holder → origin_of holder ≡ None → holder ≡ Some None
+whole_of None some none = cc some
+whole_of (Some origin) some none = ap Some none
+
+pub whole_kept : (objects : Objects) (digest : List ℕ) (links : Links) (name bytes : List ℕ) → Stands objects digest links → IsWholeObject objects digest name bytes → IsWhole links name
+whole_kept objects digest links name bytes s w =
+    let holder = s.known name w.named (ap is_some w.has) in
+    whole_of (map.get links name) holder (sym (s.origins name holder) ∙ w.whole)
+
+pub tight_tree : (objects : Objects) (number : ℕ) (kept : Kept) → AllStand (Some objects) number kept → AreTight objects number kept → IsTightTree objects number
+tight_tree objects number kept stand tight digest name other bytes own one two some =
+    let s = stand digest own in
+    tight digest own name other bytes (whole_kept objects digest (links_at kept digest) name bytes s one) (whole_kept objects digest (links_at kept digest) other bytes s two) one.has two.has some

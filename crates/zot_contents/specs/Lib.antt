@@ -4,4 +4,5 @@ pub mod Holdings
 pub mod Listing
 pub mod Opening
 pub mod Holders
+pub mod Answers
 pub mod Places

@@ -18,3 +18,17 @@ holdings_under objects digest links = map (λ e. holding_of objects digest e.0) 
 -- what the holders of all digests hold, in the order of the digests
 abbrev pub holdings_of : Objects → Kept → List Holding
 holdings_of objects kept = flat_map (λ e. holdings_under objects e.0 e.1) (finite.entries kept)
+
+-- ---- whose sizes are listed, which doesn't depend on what the store tells
+
+-- the digest and the repository of a holding
+abbrev pub place_of : Holding → List ℕ × List ℕ
+place_of holding = (holding.digest, holding.name)
+
+-- those of the holders of a digest, in the order of their names
+abbrev pub places_under : List ℕ → Links → List (List ℕ × List ℕ)
+places_under digest links = map (λ e. (digest, e.0)) (finite.entries links)
+
+-- those of the holders of all digests, in the order of the digests
+abbrev pub places_of : Kept → List (List ℕ × List ℕ)
+places_of kept = flat_map (λ e. places_under e.0 e.1) (finite.entries kept)

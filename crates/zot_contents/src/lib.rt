@@ -7,6 +7,7 @@ mod digests;
 mod holder_laws;
 mod holding;
 mod holding_list;
+mod laws;
 mod layout_fault;
 mod listing;
 mod opening;
@@ -16,6 +17,7 @@ mod pool_call;
 mod pool_reply;
 mod shard;
 mod sharding;
+mod stepping;
 mod unopened;
 mod walking;
 
@@ -24,6 +26,7 @@ pub use crate::holder_laws::{
 };
 pub use crate::holding::Holding;
 pub use crate::holding_list::HoldingList;
+pub use crate::laws::tight_means;
 pub use crate::layout_fault::LayoutFault;
 pub use crate::permit::Permit;
 pub use crate::pool_call::PoolCall;

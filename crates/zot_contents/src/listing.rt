@@ -1,9 +1,9 @@
 //! All that is held under the digests of a shard.
-ghost use Rattle.std.specs.Prelude.{◌≡◌, ◌∷◌, ◌++◌, ℕ, List, [], IfOk, IfSome, IsSome, OnOk};
+ghost use Rattle.std.specs.Prelude.{◌≡◌, ◌∷◌, ◌++◌, ℕ, List, [], IfOk, IfSome, IsSome, OnOk, map as each};
 ghost use Rattle.std.specs.FinMap as map;
 ghost use Rattle.zot_outside.specs.Faults.{HasStoreCause, OnMissing};
 ghost use Rattle.zot_links.specs.Meaning.{StandsWhereTold};
-ghost use Rattle.zot_contents.specs.Listing.{holding_of, holdings_of, holdings_under};
+ghost use Rattle.zot_contents.specs.Listing.{holding_of, holdings_of, holdings_under, place_of, places_of, places_under};
 ghost use Rattle.zot_contents.specs.Shards.{StandsAt};
 
 use crate::digests::Digests;
@@ -21,6 +21,7 @@ pub fn list<S: Store>(part: &mut S, alloc: Global, digests: &Digests) -> StoreRe
     ensures kept { S.objects part.new ≡ S.objects part.old }
     ensures missing { OnMissing result ⊥ }
     ensures ok { IfOk result (λ list. IfSome (S.objects part.old) (λ told. list.items ≡ holdings_of told digests.now)) }
+    ensures places { IfOk result (λ list. each place_of list.items ≡ places_of digests.now) }
 {
     let mut holdings = Vec::new(alloc);
     for (digest, links) in digests.tree().iter() {
@@ -42,6 +43,7 @@ fn list_digest<S: Store>(
     ensures kept { S.objects part.new ≡ S.objects part.old }
     ensures missing { OnMissing result ⊥ }
     ensures ok { OnOk result (IfSome (S.objects part.old) (λ told. holdings.new.items ≡ holdings.old.items ++ holdings_under told digest.now links.now)) }
+    ensures places { OnOk result (each place_of holdings.new.items ≡ each place_of holdings.old.items ++ places_under digest.now links.now) }
 {
     for (name, _) in links.tree().iter() {
         let holding = holding_of(part, alloc, digest, links, name)?;
@@ -71,6 +73,7 @@ fn holding_of<S: Store>(
     ensures kept { S.objects part.new ≡ S.objects part.old }
     ensures missing { OnMissing result ⊥ }
     ensures ok { IfOk result (λ holding. IfSome (S.objects part.old) (λ told. holding ≡ holding_of told digest.now name.now)) }
+    ensures place { IfOk result (λ holding. place_of holding ≡ (digest.now, name.now)) }
 {
     let name_copy = name.copy(alloc)?;
     let size = size(part, alloc, digest, links, name)?;

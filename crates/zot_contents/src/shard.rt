@@ -1,15 +1,19 @@
 //! A shard of digests.
-ghost use Rattle.std.specs.Prelude.{◌≡◌, IfOk, IfSome, OnErr, OnOk, option_map};
+ghost use Rattle.std.specs.Prelude.{◌≡◌, IfOk, IfSome, OnErr, OnOk, map as each, option_map};
 ghost use Rattle.std.proofs.Props.{props};
 ghost use Rattle.zot_outside.specs.Faults.{HasStoreCause, OnMissing};
 ghost use Rattle.zot_links.specs.Aims.{IsAimed};
 ghost use Rattle.zot_links.specs.Changes.{HasCallsCause, Told};
 ghost use Rattle.zot_links.specs.Meaning.{held};
+ghost use Rattle.zot_contents.specs.Holdings.{AreAllHeld};
+ghost use Rattle.zot_contents.specs.Listing.{place_of, places_of};
 ghost use Rattle.zot_contents.specs.Pool.{AreSame, Gives, if_sound, plain_attach, plain_detach, plain_mount, size_of};
 ghost use Rattle.zot_contents.specs.declared.pool_reply.PoolReply.TheVariants.{Done, Removed};
 ghost use Rattle.zot_contents.specs.Shards.{AllOwn, AllStand, IsOfShard, KeepsTight, links_at};
 
 use crate::digests::Digests;
+use crate::holding::Holding;
+use crate::listing::list;
 use std::alloc::Global;
 use zot_digest::{Digest, digest_of};
 use zot_names::RepoName;
@@ -140,6 +144,20 @@ impl<S: Store> DigestShard<S> {
         } else {
             Ok(None)
         }
+    }
+
+    /// All that is held under the shard's digests, in their order and, under one, in that of the names. The sizes are asked of the store; no bytes are read.
+    pub fn holdings(&mut self, alloc: Global) -> StoreResult<Vec<Holding>>
+        ensures cause { HasStoreCause (S.faults self.old.part) (S.faults self.new.part) result }
+        ensures kept { S.objects self.new.part ≡ S.objects self.old.part }
+        ensures ok { IfOk result (λ list. IfSome (S.objects self.old.part) (λ told. AreAllHeld self.old.number (held told) list.items)) }
+        ensures places { IfOk result (λ list. each place_of list.items ≡ places_of self.old.digests) }
+        ensures missing { OnMissing result ⊥ }
+        ensures digests { self.new.digests ≡ self.old.digests }
+        ensures number { self.new.number ≡ self.old.number }
+        ensures dedupe { self.new.dedupe ≡ self.old.dedupe }
+    {
+        list(&mut self.part, alloc, &self.digests)
     }
 
     /// Gives the part back. Takes no memory.

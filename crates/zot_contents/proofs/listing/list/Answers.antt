@@ -3,8 +3,8 @@ use Rattle.std.specs.List.{AllByRecursion, flat_map}
 use Rattle.std.specs.List.Sorted.{IsStrictlySortedBy}
 use Rattle.zot_digest.specs.ByteMap.{byte_cmp}
 use Rattle.zot_links.specs.Meaning.{Links, StandsWhereTold}
-use Rattle.zot_contents.specs.Listing.{holdings_of, holdings_under}
-use Rattle.zot_contents.proofs.ListingLemmas.{alike_told, entries_stand, listed_more, of_entries}
+use Rattle.zot_contents.specs.Listing.{holdings_of, holdings_under, place_of, places_of, places_under}
+use Rattle.zot_contents.proofs.ListingLemmas.{alike_told, entries_stand, listed_more, of_entries, placed_more, places_of_entries}
 use Rattle.zot_contents.proofs.listing.list.Goals as goal
 
 abbrev Entries : Type 0
@@ -23,6 +23,9 @@ loop-digest-init g c =
           (λ told. of_entries told c.args.digests.now c.tree.result.now.entries c.tree.ensures sorted
           ∙ ap (λ (l : Entries). flat_map (λ e. holdings_under told e.0 e.1) l) (sym given)
           ∙ ap (λ l. l ++ flat_map (λ (e : List ℕ × Links). holdings_under told e.0 e.1) c.into_iter-digest-iterator.result) (sym c.new-holdings.ensures.items)),
+      places_of_entries c.args.digests.now c.tree.result.now.entries c.tree.ensures sorted
+          ∙ ap (λ (l : Entries). flat_map (λ e. places_under e.0 e.1) l) (sym given)
+          ∙ ap (λ l. map place_of l ++ flat_map (λ (e : List ℕ × Links). places_under e.0 e.1) c.into_iter-digest-iterator.result) (sym c.new-holdings.ensures.items),
     )
 
 pub loop-digest-preserved : goal.loop-digest-preserved
@@ -37,4 +40,8 @@ loop-digest-preserved g c =
           c.loop-digest.holdings.items c.list_digest.new.holdings.items c.loop-digest.invariant.1
           (subst (λ (l : Entries). IfSome (objects c.args.part.now) (λ told. holdings_of told c.args.digests.now ≡ c.loop-digest.holdings.items ++ flat_map (λ e. holdings_under told e.0 e.1) l)) next c.loop-digest.invariant.3)
           c.in_ok-list_digest.ensures.ok,
+      placed_more (places_of c.args.digests.now) (map place_of c.loop-digest.holdings.items) (places_under c.in-Some.digest.now c.in-Some.links.now)
+          (flat_map (λ (e : List ℕ × Links). places_under e.0 e.1) c.next.new.self) (map place_of c.list_digest.new.holdings.items)
+          (subst (λ (l : Entries). places_of c.args.digests.now ≡ map place_of c.loop-digest.holdings.items ++ flat_map (λ e. places_under e.0 e.1) l) next c.loop-digest.invariant.4)
+          c.in_ok-list_digest.ensures.places,
     )

@@ -1,5 +1,4 @@
-use Rattle.std.proofs.Common.{◌≡◌, ◌∙◌, sym, ap, subst, true, Some, IfSome, OnOk, OnErr}
-use Rattle.std.specs.FinMap as map
+use Rattle.std.proofs.Common.{◌≡◌, subst, true, Some, IfSome, OnOk, OnErr}
 use Rattle.zot_links.specs.Aims.{IsAimed}
 use Rattle.zot_links.specs.Changes.{Keeps, Sets, Told}
 use Rattle.zot_links.specs.Meaning.{Links, StandsWhereTold}

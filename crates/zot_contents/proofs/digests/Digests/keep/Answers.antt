@@ -1,6 +1,5 @@
-use Rattle.std.proofs.Common.{◌≡◌, ◌∙◌, sym, ap, Option, None}
-use Rattle.std.specs.Prelude.{is_some, option_copied}
-use Rattle.std.specs.FinMap as map
+use Rattle.std.proofs.Common.{◌∙◌, sym, ap}
+use Rattle.std.specs.Prelude.{option_copied}
 use Rattle.zot_contents.proofs.KeptLemmas.{found_none, keep_all, set_kept, set_only_so}
 use Rattle.zot_contents.proofs.digests.Digests.keep.Goals as goal
 

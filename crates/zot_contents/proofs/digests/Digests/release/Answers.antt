@@ -1,5 +1,4 @@
-use Rattle.std.proofs.Common.{◌≡◌, ◌∙◌, sym, ap, subst, Some, IfOk, OnErr}
-use Rattle.std.specs.FinMap as map
+use Rattle.std.proofs.Common.{subst, IfOk, OnErr}
 use Rattle.zot_links.specs.Changes.{Keeps, Told}
 use Rattle.zot_links.specs.Holding.{Releases}
 use Rattle.zot_links.specs.Meaning.{Links, StandsWhereTold}

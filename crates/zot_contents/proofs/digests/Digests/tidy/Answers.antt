@@ -1,4 +1,4 @@
-use Rattle.std.proofs.Common.{◌≡◌, ◌∙◌, sym, ap, Option}
+use Rattle.std.proofs.Common.{◌∙◌, sym, ap, Option}
 use Rattle.std.specs.Prelude.{option_copied, unwrap_or}
 use Rattle.std.specs.FinMap as map
 use Rattle.zot_links.specs.Meaning.{Links}

@@ -1,5 +1,5 @@
-use Rattle.std.proofs.Common.{◌≡◌, sym, ap, subst, true, Some, ◌∙◌}
-use Rattle.std.specs.Prelude.{IfSome, OnErr, OnOk}
+use Rattle.std.proofs.Common.{◌≡◌, sym, true, Some}
+use Rattle.std.specs.Prelude.{IfSome, OnOk}
 use Rattle.zot_links.proofs.HoldLemmas.{err_so}
 use Rattle.zot_links.proofs.PartLemmas.{either, ok_so}
 use Rattle.zot_links.specs.Aims.{IsAimed}

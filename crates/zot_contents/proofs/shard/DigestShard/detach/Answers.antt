@@ -1,5 +1,4 @@
-use Rattle.std.proofs.Common.{◌≡◌, sym, true, None}
-use Rattle.std.specs.Prelude.{OnErr}
+use Rattle.std.proofs.Common.{sym, None}
 use Rattle.zot_links.proofs.HoldLemmas.{err_so}
 use Rattle.zot_links.proofs.LineLemmas.{on_ok}
 use Rattle.zot_links.specs.Changes.{Keeps, Told, with_held}
