@@ -14,7 +14,7 @@ use Rattle.zot_history.proofs.Histories.{entries_of_first, entries_of_later}
 use Rattle.zot_history.proofs.Runs.{run_from}
 use Rattle.zot_links.proofs.StandLemmas.{eq_false, eq_true}
 use Rattle.zot_links.specs.Changes.{with_held}
-use Rattle.zot_contents.specs.Holders.{Covers, GivesOwn, History, IsOwner, IsRefused, KeepsOtherShards, Moves, MovesOwn, PoolEntry, after_all, after_call, after_entry, carried_by, digest_of, if_taken, is_own, name_of, own_entries, under, unless_refused}
+use Rattle.zot_contents.specs.Holders.{Covers, GivesOwn, History, IsOwner, IsRefused, KeepsOtherShards, Moves, MovesOwn, PoolEntry, after_all, after_call, after_entry, carried_by, digest_in, if_taken, is_own, name_in, own_entries, under, unless_refused}
 use Rattle.zot_contents.specs.Holdings.{Lists}
 use Rattle.zot_contents.specs.Pool.{AreSame, Gives, Holders, IsPlain, MayAnswer, content_of, if_sound, mount_of, plain_attach, plain_detach, plain_mount, plain_read, with_bytes}
 use Rattle.zot_contents.specs.Shards.{IsCallOf, IsOfShard, shard_of}
@@ -208,7 +208,7 @@ module _ (mine : List ℕ → Bool) (old new : Holders) where
   own_held : (digest name : List ℕ) → mine name ≡ true → old digest name ≡ Mine old digest name
   own_held digest name own = ap (λ b. cond b (old digest name) None) (sym own)
 
-  own_plain : (number : ℕ) (call : PoolCall) (reply : PoolReply) (carried : Held) → unwrap_or (option_map mine (name_of call)) false ≡ true → carried ≡ carried_by old call reply
+  own_plain : (number : ℕ) (call : PoolCall) (reply : PoolReply) (carried : Held) → unwrap_or (option_map mine (name_in call)) false ≡ true → carried ≡ carried_by old call reply
       → IsPlain number old call reply new → GivesOwn (Mine old) call carried reply (Mine new)
   unfolding IsPlain
   own_plain number calls.Holdings reply carried own carries plain = own_same plain.1
@@ -221,7 +221,7 @@ module _ (mine : List ℕ → Bool) (old new : Holders) where
     held_is = own_with digest name None own plain.held_is;
   }
 
-  other_plain : (number : ℕ) (call : PoolCall) (reply : PoolReply) → unwrap_or (option_map mine (name_of call)) false ≡ false → IsPlain number old call reply new → AreSame (Mine old) (Mine new)
+  other_plain : (number : ℕ) (call : PoolCall) (reply : PoolReply) → unwrap_or (option_map mine (name_in call)) false ≡ false → IsPlain number old call reply new → AreSame (Mine old) (Mine new)
   unfolding IsPlain
   other_plain number calls.Holdings reply not plain = own_same plain.1
   other_plain number (calls.Attach name digest bytes) reply not plain = other_with digest name (Some bytes) not plain.held_is
@@ -259,7 +259,7 @@ module _ (a m b : Holders) (alike : AreSame a m) where
   from_mount name digest None reply gives = record { reply_is = gives.reply_is; held_is = same_through a m b alike gives.held_is }
   from_mount name digest (Some bytes) reply gives = record { reply_is = gives.reply_is; held_is = from_with digest name (Some bytes) gives.held_is }
 
-  from_gives : (call : PoolCall) (found : Held) (reply : PoolReply) → IfSome (name_of call) IsName → IfSome (digest_of call) IsDigest → GivesOwn m call found reply b → GivesOwn a call found reply b
+  from_gives : (call : PoolCall) (found : Held) (reply : PoolReply) → IfSome (name_in call) IsName → IfSome (digest_in call) IsDigest → GivesOwn m call found reply b → GivesOwn a call found reply b
   from_gives calls.Holdings found reply named is same = same_through a m b alike same
   from_gives (calls.Attach name digest bytes) found reply named is gives = record { reply_is = gives.reply_is; held_is = from_with digest name (Some bytes) gives.held_is }
   from_gives (calls.Mount name from digest) found reply named is gives = (gives.0, from_mount name digest found reply gives.1)
@@ -391,7 +391,7 @@ module _ (digest name : List ℕ) where
     mount_skips held owner at None not = refl
     mount_skips held owner at (Some bytes) not = with_bytes_beside held at owner (Some bytes) digest name (inr (apart_from owner not))
 
-    call_skips : (held : Holders) (call : PoolCall) (found : Held) → unwrap_or (option_map mine (name_of call)) false ≡ false → after_call held call found digest name ≡ held digest name
+    call_skips : (held : Holders) (call : PoolCall) (found : Held) → unwrap_or (option_map mine (name_in call)) false ≡ false → after_call held call found digest name ≡ held digest name
     call_skips held calls.Holdings found not = refl
     call_skips held (calls.Attach owner at bytes) found not = mount_skips held owner at (Some bytes) not
     call_skips held (calls.Mount owner from at) found not = mount_skips held owner at found not

@@ -198,7 +198,7 @@ module _ (told : Objects) where
   all_long long digest [] is h = tt
   all_long long digest (e ∷ es) is h = (is ∙ sym h.0, all_long long digest es is h.1)
 
-  sorted_among : (long : ℕ) (es : List (List ℕ × Links)) → AllByRecursion (λ e. length e.0 ≡ long) es → IsStrictlySortedBy byte_cmp (map (λ e. e.0) es)
+  pub sorted_among : (long : ℕ) (es : List (List ℕ × Links)) → AllByRecursion (λ e. length e.0 ≡ long) es → IsStrictlySortedBy byte_cmp (map (λ e. e.0) es)
       → IsStrictlySortedBy byte_cmp (map key_of (flat_map (λ e. holdings_under told e.0 e.1) es))
   unfolding IsStrictlySortedBy
   sorted_among long [] is h = tt
@@ -207,7 +207,7 @@ module _ (told : Objects) where
       (sorted_under e.0 (finite.entries e.1) (keys_ascend byte_cmp (finite.entries e.1) (entries_sorted e.1))) (sorted_among long es is.1 h.1)
       (all_above e.0 (finite.entries e.1) es (all_long long e.0 es is.0 is.1) h.0)
 
-own_long : (number : ℕ) (kept : Kept) → AllOwn number kept → (es : List (List ℕ × Links)) → AllFound byte_order (finite.entries kept) es → AllByRecursion (λ e. length e.0 ≡ 32) es
+pub own_long : (number : ℕ) (kept : Kept) → AllOwn number kept → (es : List (List ℕ × Links)) → AllFound byte_order (finite.entries kept) es → AllByRecursion (λ e. length e.0 ≡ 32) es
 own_long number kept own [] found = tt
 own_long number kept own (e ∷ es) found = ((own e.0 (ap is_some (get-entries kept e.0 ∙ found.0))).0.long, own_long number kept own es found.1)
 

@@ -1,9 +1,9 @@
 pub mod KeptLemmas
 pub mod ShardLemmas
 pub mod ListingLemmas
+pub mod HolderLemmas
 pub mod HoldingLemmas
 pub mod AnswerLemmas
 pub mod PlaceLemmas
 pub mod WalkLemmas
 pub mod OpeningLemmas
-pub mod HolderLemmas

@@ -43,25 +43,25 @@ carried_by held (calls.Read name digest) reply = None
 carried_by held (calls.Detach name digest) reply = None
 
 -- the name of which a call speaks
-abbrev pub name_of : PoolCall → Option (List ℕ)
-name_of calls.Holdings = None
-name_of (calls.Attach name digest bytes) = Some name
-name_of (calls.Mount name from digest) = Some name
-name_of (calls.Read name digest) = Some name
-name_of (calls.Detach name digest) = Some name
+abbrev pub name_in : PoolCall → Option (List ℕ)
+name_in calls.Holdings = None
+name_in (calls.Attach name digest bytes) = Some name
+name_in (calls.Mount name from digest) = Some name
+name_in (calls.Read name digest) = Some name
+name_in (calls.Detach name digest) = Some name
 
 -- the digest of a call
-abbrev pub digest_of : PoolCall → Option (List ℕ)
-digest_of calls.Holdings = None
-digest_of (calls.Attach name digest bytes) = Some digest
-digest_of (calls.Mount name from digest) = Some digest
-digest_of (calls.Read name digest) = Some digest
-digest_of (calls.Detach name digest) = Some digest
+abbrev pub digest_in : PoolCall → Option (List ℕ)
+digest_in calls.Holdings = None
+digest_in (calls.Attach name digest bytes) = Some digest
+digest_in (calls.Mount name from digest) = Some digest
+digest_in (calls.Read name digest) = Some digest
+digest_in (calls.Detach name digest) = Some digest
 
 -- an entry leads from these holders to those, as the plain pool of some shard may answer it
 pub record Moves (old : Holders) (entry : PoolEntry) (new : Holders) : Type 0 where
-  pub named : IfSome (name_of entry.call) IsName
-  pub digest : IfSome (digest_of entry.call) IsDigest
+  pub named : IfSome (name_in entry.call) IsName
+  pub digest : IfSome (digest_in entry.call) IsDigest
   pub number : ℕ
   pub before : ℕ
   pub after : ℕ
@@ -76,7 +76,7 @@ History opening entries new = Replays (λ old seat entry later. Moves old entry 
 
 -- an entry speaks of one's own names
 abbrev pub is_own : (List ℕ → Bool) → PoolEntry → Bool
-is_own mine entry = unwrap_or (option_map mine (name_of entry.call)) false
+is_own mine entry = unwrap_or (option_map mine (name_in entry.call)) false
 
 -- those entries, in order
 abbrev pub own_entries : (List ℕ → Bool) → List (ℕ × PoolEntry) → List PoolEntry
@@ -104,8 +104,8 @@ GivesOwn old (calls.Detach name digest) found reply new = Gives (plain_detach ol
 
 -- an entry leads from what is held under one's own names to what is held under them after it
 pub record MovesOwn (old : Holders) (entry : PoolEntry) (new : Holders) : Type 0 where
-  pub named : IfSome (name_of entry.call) IsName
-  pub digest : IfSome (digest_of entry.call) IsDigest
+  pub named : IfSome (name_in entry.call) IsName
+  pub digest : IfSome (digest_in entry.call) IsDigest
   pub answers : GivesOwn old entry.call entry.carried entry.reply new ⊎ (IsRefused entry.reply × AreSame old new)
 
 -- ---- what follows from entries

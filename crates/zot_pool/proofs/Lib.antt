@@ -1,2 +1,3 @@
 pub mod UpstreamLemmas
 pub mod PoolLemmas
+pub mod OpeningLemmas

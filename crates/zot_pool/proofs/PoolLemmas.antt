@@ -25,7 +25,7 @@ use Rattle.zot_contents.specs.Pool.{Holders}
 use Rattle.zot_contents.specs.Shards.{AreTight, IsOfShard, KeepsTight, shard_of, shards}
 use Rattle.zot_contents.specs.declared.shard.DigestShard.{DigestShard}
 use Rattle.zot_pool.specs.Answers.{pooled}
-use Rattle.zot_pool.specs.Pools.{AreDeduped, AreNumbered, AreTightPool, BothHold, ChangesOnly, HasPoolCause, HasReadCause, RoseAt, faults_of, held_by, held_in, holds, objects_of}
+use Rattle.zot_pool.specs.Pools.{AreDeduped, AreNumbered, AreTightPool, BothHold, ChangesOnly, HasPoolCause, HasReadCause, RoseAt, faults_of, held_of, held_in, holds, objects_of}
 use Rattle.zot_pool.specs.declared.pool_error.PoolError.{PoolError}
 
 -- ---- lists
@@ -76,10 +76,10 @@ holds_none parts i within none = ap (λ b. cond b (Some (held_in parts)) None) (
 
 -- what is held by all parts is, under the digests of one shard, what its part holds
 pub part_covers : (parts : List (Option Objects)) (i : ℕ) (told : Objects) → slice_get parts i ≡ Some (Some told) → Covers i (held told) (held_in parts)
-part_covers parts i told is digest own = ap (λ n. held_by (option_flatten (slice_get parts n)) digest) own.1 ∙ ap (λ p. held_by (option_flatten p) digest) is
+part_covers parts i told is digest own = ap (λ n. held_of (option_flatten (slice_get parts n)) digest) own.1 ∙ ap (λ p. held_of (option_flatten p) digest) is
 
 pub parts_keep : (old new : List (Option Objects)) (i : ℕ) → ChangesOnly i old new → KeepsOtherShards i (held_in old) (held_in new)
-parts_keep old new i changes digest is not = ap (λ p. held_by (option_flatten p) digest) (changes (shard_of digest) (λ same. not (is, same)))
+parts_keep old new i changes digest is not = ap (λ p. held_of (option_flatten p) digest) (changes (shard_of digest) (λ same. not (is, same)))
 
 module _ (parts : List (Option Objects)) (i : ℕ) (within : i < length parts) (P : Holders → Holders → Type 0) (Q : Objects → Objects → Type 0) where
   parts_told : (before after : Option Objects) → before ≡ get_or parts i before → Told before after Q

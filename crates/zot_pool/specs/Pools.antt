@@ -1,15 +1,17 @@
 -- What a pool is to its callers: what is held under all digests, where all of its parts tell, and the counts of their faults.
-use Rattle.std.specs.Prelude.{◌≡◌, ◌≢◌, ℕ, ◌≤◌, List, map, sum, true, Option, Some, None, IfSome, is_some, slice_index, if◌then◌else◌, ⊤}
+use Rattle.std.specs.Prelude.{◌≡◌, ◌≢◌, ℕ, ◌≤◌, List, [], map, sum, true, Option, Some, None, IfSome, is_some, option_map, slice_index, unwrap_or, if◌then◌else◌, ⊤}
 use Rattle.std.specs.List.{All, list_all, range_with_len, slice_get}
+use Rattle.std.specs.Global.{Vec}
 use Rattle.std.specs.Option.{option_flatten}
+use Rattle.std.specs.Vec.{vec_capacity}
 use Rattle.zot_outside.specs.Faults.{Rose}
 use Rattle.zot_outside.specs.Objects.{Objects}
 use Rattle.zot_outside.specs.declared.stores.store.Store.{Ghosts}
 use Rattle.zot_links.specs.Meaning.{held}
+use Rattle.zot_contents.specs.Holders.{digest_in}
 use Rattle.zot_contents.specs.Pool.{Holders}
 use Rattle.zot_contents.specs.Shards.{AreTight, shard_of, shards}
 use Rattle.zot_contents.specs.declared.pool_call.PoolCall.{PoolCall}
-use Rattle.zot_contents.specs.declared.pool_call.PoolCall.TheVariants as calls
 use Rattle.zot_contents.specs.declared.pool_reply.PoolReply.{PoolReply}
 use Rattle.zot_contents.specs.declared.pool_reply.PoolReply.TheVariants as replies
 use Rattle.zot_contents.specs.declared.shard.DigestShard.{DigestShard}
@@ -21,6 +23,11 @@ use Rattle.zot_pool.specs.declared.pool_error.PoolError.TheVariants.{Failed, NoM
 -- there are all shards, in the order of their numbers
 abbrev pub AreNumbered : {S : Type 0} {G : Ghosts S} → List (DigestShard S G) → Type 0
 AreNumbered owned = map (λ s. s.number) owned ≡ range_with_len 0 shards
+
+-- there is room for as many parts, and none in it
+pub record HasRoom {S : Type 0} (room : Vec S) : Type 0 where
+  pub none : room.items ≡ []
+  pub enough : shards ≤ vec_capacity room
 
 -- the objects of each part, where it tells
 abbrev pub objects_of : {S : Type 0} {G : Ghosts S} → List (DigestShard S G) → List (Option Objects)
@@ -37,13 +44,17 @@ ChangesOnly number old new = (other : ℕ) → other ≢ number → slice_get ne
 -- ---- what is held
 
 -- what is held by the objects of a part, where it tells
-abbrev pub held_by : Option Objects → List ℕ → List ℕ → Option (List ℕ)
-held_by None digest name = None
-held_by (Some told) digest name = held told digest name
+abbrev pub held_of : Option Objects → List ℕ → List ℕ → Option (List ℕ)
+held_of None digest name = None
+held_of (Some told) digest name = held told digest name
+
+-- the objects of the part with this number, where it tells
+abbrev pub part_at : List (Option Objects) → ℕ → Option Objects
+part_at parts number = option_flatten (slice_get parts number)
 
 -- what is held under each digest, by the objects of its shard's part
 abbrev pub held_in : List (Option Objects) → Holders
-held_in parts digest = held_by (option_flatten (slice_get parts (shard_of digest))) digest
+held_in parts digest = held_of (part_at parts (shard_of digest)) digest
 
 -- the same, where all parts tell
 abbrev pub holds : List (Option Objects) → Option Holders
@@ -55,20 +66,9 @@ BothHold None new P = new ≡ None
 BothHold (Some old) None P = ⊥
 BothHold (Some old) (Some new) P = P old new
 
--- ---- the calls of a row
-
--- the digest of a call, if it has one
-abbrev pub digest_in : PoolCall → Option (List ℕ)
-digest_in calls.Holdings = None
-digest_in (calls.Attach name digest bytes) = Some digest
-digest_in (calls.Mount name from digest) = Some digest
-digest_in (calls.Read name digest) = Some digest
-digest_in (calls.Detach name digest) = Some digest
-
--- a call that only reads
-abbrev pub IsRead : PoolCall → Type 0
-IsRead (calls.Read name digest) = ⊤
-IsRead _ = ⊥
+-- the shard of a call's digest
+abbrev pub number_in : PoolCall → ℕ
+number_in call = unwrap_or (option_map shard_of (digest_in call)) 0
 
 -- ---- faults
 

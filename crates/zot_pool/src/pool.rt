@@ -4,7 +4,7 @@ ghost use Rattle.std.specs.Result.{result_err};
 ghost use Rattle.zot_contents.specs.Pool.{AreSame, Gives, plain_attach, plain_detach, plain_mount, size_of};
 ghost use Rattle.zot_contents.specs.Shards.{shard_of};
 ghost use Rattle.zot_contents.specs.declared.pool_reply.PoolReply.TheVariants.{Done, Removed};
-ghost use Rattle.zot_pool.specs.Pools.{AreDeduped, AreNumbered, AreTightPool, BothHold, ChangesOnly, HasPoolCause, HasReadCause, faults_of, holds, objects_of};
+ghost use Rattle.zot_pool.specs.Pools.{AreDeduped, AreNumbered, AreTightPool, BothHold, ChangesOnly, HasPoolCause, HasReadCause, HasRoom, faults_of, holds, objects_of};
 
 use crate::answers::pooled;
 use crate::pool_error::PoolError;
@@ -17,8 +17,11 @@ use zot_outside::Store;
 /// All shards of digests, each over a part of the store: who holds which bytes under each digest. What is held is a function of the parts' objects. Each call goes to the shard of its digest; a fault is answered only where the count of that shard's part rose.
 #[derive(Drop)]
 pub struct Pool<S: Store> {
-    shards: Vec<DigestShard<S>>,
+    pub(crate) shards: Vec<DigestShard<S>>,
+    // Where the parts are given back, so that closing takes no memory.
+    pub(crate) room: Vec<S>,
     ghost numbered: { AreNumbered shards.items },
+    ghost roomy: { HasRoom room },
 }
 
 impl<S: Store> Pool<S> {

@@ -16,7 +16,7 @@ pub invariant_of-self : goal.invariant_of-self
 invariant_of-self g c =
     let xs = c.args.self.now.shards.items in
     let within = of_shard_within xs c.shard_of.result c.args.digest.now c.args.self.now.numbered c.shard_of.ensures.digest in
-    record { numbered = still_numbered xs c.shard_of.result c.index_mut-shard.result.now c.read.new.self within c.index_mut-shard.ensures.value c.args.self.now.numbered c.read.ensures.number }
+    record { numbered = still_numbered xs c.shard_of.result c.index_mut-shard.result.now c.read.new.self within c.index_mut-shard.ensures.value c.args.self.now.numbered c.read.ensures.number; roomy = c.args.self.now.roomy }
 
 pub returns-clause-cause : goal.returns-clause-cause
 returns-clause-cause g c =
