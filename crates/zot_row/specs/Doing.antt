@@ -12,12 +12,11 @@ use Rattle.zot_model.specs.declared.call.Call.{Call}
 use Rattle.zot_model.specs.declared.call.Call.TheVariants as calls
 use Rattle.zot_model.specs.declared.reply.Reply.TheVariants as replies
 use Rattle.zot_model.specs.Outcomes.{with_blob}
-use Rattle.zot_model.specs.Plain.{plain}
 use Rattle.zot_model.specs.PlainBlobs.{without_blob}
 use Rattle.zot_model.specs.PlainUploads.{with_sessions}
 use Rattle.zot_model.specs.State.{RepoState, made_known}
 use Rattle.zot_model.specs.Uploads.{without}
-use Rattle.zot_repo.specs.Replies.{made_reply, with_checked}
+use Rattle.zot_repo.specs.Replies.{MayGive, made_reply, with_checked}
 use Rattle.zot_repo.specs.Repository.{IsOf}
 use Rattle.zot_table.specs.Standing.{Holds, repo_of}
 use Rattle.zot_table.specs.Tables.{RepoTable, entry_at, found_in, is_unread}
@@ -64,13 +63,12 @@ pub record ChecksManifest (checked : Checked) (digest bytes : List ℕ) (old : R
   pub call_is : call ≡ calls.PutManifest reference media bytes
   pub digest_is : digest ≡ checked.digest
   pub of : IsOf checked bytes
-  pub plain_is : plain moment old call ≡ record { reply = made_reply checked; repo = with_checked moment (with_blob moment old checked.digest bytes) checked }
+  pub ends : MayGive moment old call (made_reply checked) (with_checked moment (with_blob moment old checked.digest bytes) checked)
 
--- what a call leads to once its bytes are held
+-- how a call may be answered once its bytes are held, and what it leads to
 abbrev pub EndsWith : Attaching → List ℕ → List ℕ → RepoState → Call → ℕ → Type 0
-EndsWith attaching.Blob digest bytes old call moment = plain moment old call ≡ record { reply = replies.BlobMade digest; repo = with_blob moment old digest bytes }
-EndsWith (attaching.Upload id) digest bytes old call moment =
-    plain moment old call ≡ record { reply = replies.BlobMade digest; repo = with_blob moment (with_sessions old (without old.sessions id)) digest bytes }
+EndsWith attaching.Blob digest bytes old call moment = MayGive moment old call (replies.BlobMade digest) (with_blob moment old digest bytes)
+EndsWith (attaching.Upload id) digest bytes old call moment = MayGive moment old call (replies.BlobMade digest) (with_blob moment (with_sessions old (without old.sessions id)) digest bytes)
 EndsWith (attaching.Manifest checked) digest bytes old call moment = ChecksManifest checked digest bytes old call moment
 
 -- a call asked for these bytes to be held. The repository is known by now and has room for them
@@ -99,7 +97,7 @@ pub record DeletesBlob (digest name : List ℕ) (old : RepoState) (call : Call) 
   pub asked_is : asked ≡ pool.Detach name digest
   pub same : repo_of new holds ≡ old
   pub free : finite.get new.table.manifests digest ≡ None
-  pub plain_is : plain moment old call ≡ record { reply = replies.Deleted; repo = without_blob old digest }
+  pub ends : MayGive moment old call replies.Deleted (without_blob old digest)
 
 -- ---- any call
 
