@@ -1,11 +1,11 @@
 -- What a turn promises: of the repository and its answer, of the part, and of the faults.
-use Rattle.std.specs.Prelude.{◌≡◌, ◌≢◌, ◌<◌, ◌⊎◌, ℕ, ◌+◌, List, Option, Some, None, IfSome, ⊤}
+use Rattle.std.specs.Prelude.{◌≡◌, ◌≢◌, ◌<◌, ◌⊎◌, ℕ, ◌+◌, List, length, Option, Some, None, IfSome, ⊤}
 use Rattle.zot_contents.specs.declared.pool_call.PoolCall.{PoolCall}
 use Rattle.zot_contents.specs.declared.pool_call.PoolCall.TheVariants as pool
 use Rattle.zot_contents.specs.declared.pool_reply.PoolReply.{PoolReply}
 use Rattle.zot_contents.specs.declared.pool_reply.PoolReply.TheVariants as replies
 use Rattle.zot_layout.specs.Rows.{layout_of}
-use Rattle.zot_layout.specs.Stands.{StandsFor}
+use Rattle.zot_layout.specs.Stands.{AreAlike, StandsFor}
 use Rattle.zot_layout.specs.Writing.{KeepsElsewhere, Told}
 use Rattle.zot_model.specs.declared.call.Call.{Call}
 use Rattle.zot_model.specs.declared.reply.Reply.{Reply}
@@ -16,12 +16,15 @@ use Rattle.zot_model.specs.Refusals.{no_memory, storage_fault}
 use Rattle.zot_model.specs.State.{RepoState}
 use Rattle.zot_outside.specs.Faults.{Rose}
 use Rattle.zot_outside.specs.Objects.{Objects}
+use Rattle.zot_table.specs.Changes.{reserved}
 use Rattle.zot_table.specs.Standing.{Agrees, Holds, repo_of}
 use Rattle.zot_table.specs.Tables.{RepoTable}
 use Rattle.zot_row.specs.Doing.{Doing}
 use Rattle.zot_row.specs.Stages.{IsFor, pending}
 use Rattle.zot_row.specs.Turns.{Counts, Ends, Takes, given}
+use Rattle.zot_row.specs.declared.stage.Attaching.{Attaching}
 use Rattle.zot_row.specs.declared.stage.Stage.{Stage}
+use Rattle.zot_row.specs.declared.stage.Stage.TheVariants as stages
 use Rattle.zot_row.specs.declared.turn.Turn.{Turn}
 use Rattle.zot_row.specs.declared.turn.Turn.TheVariants as turns
 
@@ -127,3 +130,23 @@ pub record Resumes (stage : Stage) (answered : PoolReply) (moment : ℕ) (name :
   pub faults : HasNextCause answered result before after
   pub fits : (call : Call) → IsFor stage call → FitsTurn call result
   pub falls : Falls stage result
+
+-- ---- turns that leave the part alone
+
+-- it isn't answered that the storage failed
+abbrev pub IsCalm : Turn → Type 0
+IsCalm (turns.Done reply) = reply ≢ storage_fault
+IsCalm (turns.Asks asked stage) = ⊤
+
+-- a call on the repository of a name begins so, and asks nothing of the part
+pub record Quietly (call : Call) (moment : ℕ) (name : List ℕ) (old : RepoTable) (result : Turn) (new : RepoTable) : Type 0 where
+  pub answer : (holds : Holds) (faults : ℕ) → Agrees old holds → Goes result None (repo_of old holds) call moment name new holds faults faults
+  pub alike : AreAlike (kept_of old) (kept_of new)
+  pub fits : FitsTurn call result
+  pub calm : IsCalm result
+
+-- the pool is asked to hold these bytes under a digest, for which there is room then; or memory ran out, and nothing changed
+abbrev pub AsksToAttach : Turn → List ℕ → List ℕ → List ℕ → Attaching → RepoTable → RepoTable → Type 0
+AsksToAttach result name digest bytes purpose old new =
+    ((result ≡ turns.Asks (pool.Attach name digest bytes) (stages.Attach digest (length bytes) purpose)) × (new ≡ reserved old digest))
+    ⊎ ((result ≡ turns.Done no_memory) × (new ≡ old))
