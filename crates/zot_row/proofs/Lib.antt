@@ -1,3 +1,4 @@
 pub mod EndLemmas
 pub mod PartLemmas
 pub mod QuietLemmas
+pub mod StartLemmas

@@ -1,5 +1,5 @@
 -- What is so while a call waits for the pool: what it asked, what it has done to the repository so far, and what it will lead to.
-use Rattle.std.specs.Prelude.{◌≡◌, ℕ, Bool, true, not, List, ◌∷◌, length, Option, Some, None, IsSome, IsSomeAnd}
+use Rattle.std.specs.Prelude.{◌≡◌, ℕ, Bool, true, false, not, List, ◌∷◌, length, Option, Some, None, IsSome, IsSomeAnd}
 use Rattle.std.specs.FinMap as finite
 use Rattle.std.specs.List.{Contains}
 use Rattle.zot_contents.specs.declared.pool_call.PoolCall.{PoolCall}
@@ -12,14 +12,13 @@ use Rattle.zot_model.specs.declared.call.Call.{Call}
 use Rattle.zot_model.specs.declared.call.Call.TheVariants as calls
 use Rattle.zot_model.specs.declared.reply.Reply.TheVariants as replies
 use Rattle.zot_model.specs.Outcomes.{with_blob}
-use Rattle.zot_model.specs.PlainBlobs.{without_blob}
 use Rattle.zot_model.specs.PlainUploads.{with_sessions}
 use Rattle.zot_model.specs.State.{RepoState, made_known}
 use Rattle.zot_model.specs.Uploads.{without}
 use Rattle.zot_repo.specs.Replies.{MayGive, made_reply, with_checked}
 use Rattle.zot_repo.specs.Repository.{IsOf}
-use Rattle.zot_table.specs.Standing.{Holds, repo_of}
-use Rattle.zot_table.specs.Tables.{RepoTable, entry_at, found_in, is_unread}
+use Rattle.zot_table.specs.Standing.{AllRead, Holds, repo_of}
+use Rattle.zot_table.specs.Tables.{RepoTable, entry_at, found_in, is_needed_in, is_unread, size_at}
 use Rattle.zot_row.specs.Stages.{Learns, Mounts}
 use Rattle.zot_row.specs.declared.stage.Attaching.{Attaching}
 use Rattle.zot_row.specs.declared.stage.Attaching.TheVariants as attaching
@@ -91,13 +90,14 @@ pub record MountsBlob (digest : List ℕ) (made : Bool) (rest : Rest) (name : Li
 
 -- ---- deleting
 
--- a DELETE asked that a blob is held no more, which is no manifest and isn't needed; the repository is as it was
-pub record DeletesBlob (digest name : List ℕ) (old : RepoState) (call : Call) (moment : ℕ) (asked : PoolCall) (new : RepoTable) (holds : Holds) : Type 0 where
+-- a DELETE asked that a blob is held no more. All manifests are read, and none needs it; the repository is as it was
+pub record DeletesBlob (digest name : List ℕ) (old : RepoState) (call : Call) (asked : PoolCall) (new : RepoTable) (holds : Holds) : Type 0 where
   pub call_is : call ≡ calls.DeleteBlob digest
   pub asked_is : asked ≡ pool.Detach name digest
   pub same : repo_of new holds ≡ old
-  pub free : finite.get new.table.manifests digest ≡ None
-  pub ends : MayGive moment old call replies.Deleted (without_blob old digest)
+  pub there : IsSome (size_at new.slots digest)
+  pub all : AllRead new
+  pub free : is_needed_in new digest ≡ false
 
 -- ---- any call
 
@@ -107,5 +107,5 @@ Doing name (stages.Blob digest) old call moment asked new holds = GetsBlob diges
 Doing name (stages.Manifest digest media reference) old call moment asked new holds = GetsManifest digest media reference name old call asked new holds
 Doing name (stages.Attach digest size purpose) old call moment asked new holds = StoresBytes digest size purpose name old call moment asked new holds
 Doing name (stages.Mount digest made rest) old call moment asked new holds = MountsBlob digest made rest name old call asked new holds
-Doing name (stages.Detach digest) old call moment asked new holds = DeletesBlob digest name old call moment asked new holds
+Doing name (stages.Detach digest) old call moment asked new holds = DeletesBlob digest name old call asked new holds
 Doing name (stages.Learn digest left purpose) old call moment asked new holds = ReadsManifests digest left.items purpose name old call asked new holds
