@@ -57,7 +57,7 @@ on_told (Some old) (Some new) F G P step told h = step old new h told
 elsewhere_others : (old new : Objects) (name : List ℕ) → KeepsElsewhere old name new → LeavesOthers old name new
 elsewhere_others old new name kept = record {
   layouts = λ other apart moment. same_layout old new other moment (kept (marker_path other) (λ same. apart (one_marker other name same)) (apart_paths other name))
-  (kept (index_path other) (λ same. apart_paths name other (sym same)) (λ same. apart (one_index other name same)));
+      (kept (index_path other) (λ same. apart_paths name other (sym same)) (λ same. apart (one_index other name same)));
   elsewhere = kept;
 }
 

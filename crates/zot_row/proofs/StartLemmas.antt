@@ -103,7 +103,7 @@ module _ (call : Call) (moment : ℕ) (name : List ℕ) (old : RepoTable) (objec
       refl,
     );
     stands = stands_then objects later later name old (known_as true old) (reserved (known_as true old) digest) stands
-    (quiet_stands later name (known_as true old) (reserved (known_as true old) digest) (record { known = refl; manifests = refl; tags = λ _. refl }));
+        (quiet_stands later name (known_as true old) (reserved (known_as true old) digest) (record { known = refl; manifests = refl; tags = λ _. refl }));
     beside = beside;
     faults = stay;
     fits = attaches;

@@ -150,3 +150,7 @@ abbrev pub AsksToAttach : Turn → List ℕ → List ℕ → List ℕ → Attach
 AsksToAttach result name digest bytes purpose old new =
     ((result ≡ turns.Asks (pool.Attach name digest bytes) (stages.Attach digest (length bytes) purpose)) × (new ≡ reserved old digest))
     ⊎ ((result ≡ turns.Done no_memory) × (new ≡ old))
+
+-- a call goes on so from a stage, and asks nothing of the part
+abbrev pub ResumesQuietly : Stage → PoolReply → ℕ → List ℕ → RepoTable → Turn → RepoTable → Type 0
+ResumesQuietly stage answered moment name old result new = (objects : Option Objects) (faults : ℕ) → Resumes stage answered moment name old objects faults result new objects faults
