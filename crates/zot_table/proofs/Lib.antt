@@ -1,2 +1,4 @@
 pub mod SlotLemmas
 pub mod KeepingLemmas
+pub mod ChangeLemmas
+pub mod LeavingLemmas
