@@ -115,11 +115,11 @@ tagged_gone old digest tagged q stored has = split (is_tag_of digest (finite.get
 pub tagged_pulled : (moment : ℕ) (manifests : ByteMap Kept) (tags : ByteMap StoredTag) (tag : List ℕ) (found : Option StoredTag) → finite.get tags tag ≡ found
     → AreTagged (record { manifests = manifests; tags = tags }) → AreTagged (record { manifests = manifests; tags = with_pull moment tags tag found })
 tagged_pulled moment manifests tags tag None here tagged = tagged
-tagged_pulled moment manifests tags tag (Some before) here tagged q stored has =
-    split (eq_by_cmp byte_cmp q tag) (sym (get-insert nat_list_cmp_total tags tag (pulled_at moment before) q) ∙ has) where
-      split : (b : Bool) → cond b (Some (pulled_at moment before)) (finite.get tags q) ≡ Some stored → finite.contains_key manifests stored.digest ≡ true
-      split true h = ap (λ (s : StoredTag). finite.contains_key manifests s.digest) (sym (same_stored (pulled_at moment before) stored h)) ∙ tagged tag before here
-      split false h = tagged q stored h
+tagged_pulled moment manifests tags tag (Some before) here tagged = λ q stored has.
+    split q stored (eq_by_cmp byte_cmp q tag) (sym (get-insert nat_list_cmp_total tags tag (pulled_at moment before) q) ∙ has) where
+      split : (q : List ℕ) (stored : StoredTag) (b : Bool) → cond b (Some (pulled_at moment before)) (finite.get tags q) ≡ Some stored → finite.contains_key manifests stored.digest ≡ true
+      split q stored true h = ap (λ (s : StoredTag). finite.contains_key manifests s.digest) (sym (same_stored (pulled_at moment before) stored h)) ∙ tagged tag before here
+      split q stored false h = tagged q stored h
 
 -- ---- no manifest is unread, of fewer manifests and of one more that was read
 

@@ -6,3 +6,5 @@ pub mod ReadingLemmas
 pub mod ManifestLemmas
 pub mod IndexLemmas
 pub mod StepLemmas
+pub mod ChangeLemmas
+pub mod LeavingLemmas

@@ -1,5 +1,5 @@
 -- What is under the digests of a repository's blobs.
-use Rattle.std.proofs.Common.{◌≡◌, ◌≢◌, ℕ, Bool, true, false, cond, List, Option, Some, None, is_some, refl, sym, ap, ◌∙◌}
+use Rattle.std.proofs.Common.{◌≡◌, ◌≢◌, ℕ, Bool, true, false, cond, List, Option, Some, None, is_some, refl, sym, ap, subst, ◌∙◌}
 use Rattle.std.specs.Prelude.{IsSome}
 use Rattle.std.specs.BTreeMap.{is_at}
 use Rattle.std.specs.Cmp.Lexicographic.{nat_list_cmp_total}
@@ -10,7 +10,7 @@ use Rattle.std.specs.Ordering.{eq_by_cmp}
 use Rattle.std.proofs.lemmas.Bool.{true≢false}
 use Rattle.zot_digest.specs.ByteMap.{ByteMap, byte_cmp, map_of}
 use Rattle.zot_manifests.specs.declared.kept.Kept.{Kept}
-use Rattle.zot_maps.proofs.Maps.{byte_order, found_at, get_here, same_key, tied_keys}
+use Rattle.zot_maps.proofs.Maps.{byte_order, found_at, get_elsewhere, get_here, same_by_key, tied_keys}
 use Rattle.zot_table.specs.Changes.{read_by, reserved_by, settled_by}
 use Rattle.zot_table.specs.Keeping.{NoneUnread}
 use Rattle.zot_table.specs.Tables.{Slots, entry_at, filled, is_unread}
@@ -93,3 +93,19 @@ module _ (old new : Slots) (digest : List ℕ) where
     split (Some (Some entry)) has k =
         ap (λ (s : Slots). is_unread (entry_at s digest)) k
         ∙ ap (λ o. is_unread (filled o)) (get_here byte_order old digest (Some (record { size = entry.size; arrived = entry.arrived; unread = false })))
+
+-- where room was made there is some
+pub reserved_room : (old new : Slots) (digest : List ℕ) → new ≡ reserved_by old digest (finite.get old digest) → IsSome (finite.get new digest)
+reserved_room old new digest is = split (finite.get old digest) refl is where
+  split : (found : Option (Option BlobEntry)) → finite.get old digest ≡ found → new ≡ reserved_by old digest found → IsSome (finite.get new digest)
+  split None has k = subst (λ o. IsSome o) (sym (ap (λ (s : Slots). finite.get s digest) k ∙ get_here byte_order old digest None)) refl
+  split (Some slot) has k = subst (λ o. IsSome o) (sym (ap (λ (s : Slots). finite.get s digest) k ∙ has)) refl
+
+-- a blob that arrives where room was made arrives as where there was some
+pub filled_reserved : (slots : Slots) (digest : List ℕ) (slot : Option BlobEntry) → finite.insert (reserved_by slots digest (finite.get slots digest)) digest slot ≡ finite.insert slots digest slot
+filled_reserved slots digest slot = split (finite.get slots digest) where
+  split : (found : Option (Option BlobEntry)) → finite.insert (reserved_by slots digest found) digest slot ≡ finite.insert slots digest slot
+  split None = same_by_key byte_order (finite.insert (finite.insert slots digest None) digest slot) (finite.insert slots digest slot) digest
+      (get_here byte_order (finite.insert slots digest None) digest slot ∙ sym (get_here byte_order slots digest slot))
+      (λ q apart. get_elsewhere byte_order (finite.insert slots digest None) digest slot q apart ∙ get_elsewhere byte_order slots digest None q apart ∙ sym (get_elsewhere byte_order slots digest slot q apart))
+  split (Some old) = refl

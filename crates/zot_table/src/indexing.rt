@@ -1,7 +1,8 @@
 //! The index of a repository's table.
 ghost use Rattle.std.specs.Prelude.{◌≡◌, ◌++◌, IfOk, OnOk, map, option_map};
 ghost use Rattle.std.specs.List.{AllByRecursion, filter};
-ghost use Rattle.zot_digest.specs.ByteMap.{map_of};
+ghost use Rattle.std.specs.List.Sorted.{IsStrictlySortedBy};
+ghost use Rattle.zot_digest.specs.ByteMap.{byte_cmp, map_of};
 ghost use Rattle.zot_layout.specs.State.{IsIndex, IsManifest};
 ghost use Rattle.zot_manifests.specs.Tags.{AreTags};
 ghost use Rattle.zot_names.specs.Tag.{IsTag};
@@ -16,7 +17,7 @@ use std::collections::BTreeMap;
 use zot_digest::{Digest, Words};
 use zot_layout::{IndexManifest, IndexManifestList, IndexState, IndexTag, IndexTagList};
 use zot_manifests::{Held, Kept, TagEntry};
-use zot_media::Reference;
+use zot_media::{Media, Reference};
 use zot_names::Tag;
 
 impl Repository {
@@ -44,6 +45,7 @@ fn manifests_left(
     ensures value { IfOk result (λ items. items.items
         ≡ map (index_manifest blobs.now) (filter (λ e. is_manifest_left (option_map (λ r. r.now) gone.entry) e.0) tree.now.entries)) }
     ensures sound { IfOk result (λ items. AllByRecursion IsManifest items.items) }
+    ensures ordered { OnOk result (IsStrictlySortedBy byte_cmp (map (λ e. e.0) tree.now.entries)) }
 {
     let mut items = Vec::new(alloc);
     for (digest, kept) in tree.iter() {
@@ -64,7 +66,8 @@ fn add_manifest(
     ensures sound { AllByRecursion IsManifest items.old.items → OnOk result (AllByRecursion IsManifest items.new.items) }
 {
     if is_manifest_left(digest, gone) {
-        items.push(index_manifest(blobs, digest, kept))?;
+        let size = blobs.size(digest).unwrap_or(0);
+        items.push(index_manifest(digest, kept.media, size, kept.arrived))?;
     }
     Ok(())
 }
@@ -80,17 +83,17 @@ fn is_manifest_left(digest: &Digest, gone: Option<&Reference>) -> bool
 }
 
 // What the index holds of a manifest.
-fn index_manifest(blobs: &SlotMap, digest: &Digest, kept: &Kept) -> IndexManifest
-    ensures value { result ≡ index_manifest blobs.now (digest.now, kept.now) }
+fn index_manifest(digest: &Digest, media: Media, size: u64, arrived: u64) -> IndexManifest
+    ensures value { result ≡ record { digest = digest.now; media = media; size = size; arrived = arrived } }
     ensures sound { IsManifest result }
 {
     // The bytes say that it is a digest.
     let _ = digest.as_bytes();
     IndexManifest {
         digest: *digest,
-        media: kept.media,
-        size: blobs.size(digest).unwrap_or(0),
-        arrived: kept.arrived,
+        media,
+        size,
+        arrived,
     }
 }
 
@@ -104,6 +107,7 @@ fn tags_left(
     ensures value { IfOk result (λ items. items.items
         ≡ map index_tag (filter (λ e. is_tag_left (option_map (λ r. r.now) gone.entry) e.0 e.1.digest) tree.now.entries)) }
     ensures sound { IfOk result (λ items. AllByRecursion IsNamed items.items) }
+    ensures ordered { OnOk result (IsStrictlySortedBy byte_cmp (map (λ e. e.0) tree.now.entries)) }
 {
     let mut items = Vec::new(alloc);
     for (text, entry) in tree.iter() {

@@ -1,6 +1,8 @@
 //! What manifests say is read from their bytes, one by one.
 ghost use Rattle.std.specs.Prelude.{◌≡◌, ◌++◌, ◌∷◌, [], IfOk, OnErr, OnOk, map, if◌then◌else◌};
 ghost use Rattle.std.specs.List.{filter};
+ghost use Rattle.std.specs.List.Sorted.{IsStrictlySortedBy};
+ghost use Rattle.zot_digest.specs.ByteMap.{byte_cmp};
 ghost use Rattle.zot_referrers.specs.Listing.{ListsSubjects};
 ghost use Rattle.zot_repo.specs.Repository.{rereads};
 ghost use Rattle.zot_table.specs.Changes.{learned};
@@ -52,7 +54,8 @@ fn unread_among(
     tree: &BTreeMap<Digest, Kept>,
     blobs: &SlotMap,
 ) -> Result<Vec<Digest>, AllocError>
-    ensures { IfOk result (λ list. list.items ≡ map (λ e. e.0) (filter (λ e. is_unread (entry_at blobs.now e.0)) tree.now.entries)) }
+    ensures value { IfOk result (λ list. list.items ≡ map (λ e. e.0) (filter (λ e. is_unread (entry_at blobs.now e.0)) tree.now.entries)) }
+    ensures ordered { OnOk result (IsStrictlySortedBy byte_cmp (map (λ e. e.0) tree.now.entries)) }
 {
     let mut list = Vec::new(alloc);
     for (digest, _) in tree.iter() {
