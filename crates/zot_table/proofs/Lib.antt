@@ -4,3 +4,4 @@ pub mod ReadingLemmas
 pub mod ManifestLemmas
 pub mod IndexLemmas
 pub mod StepLemmas
+pub mod SinceLemmas

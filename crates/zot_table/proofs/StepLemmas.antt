@@ -2,14 +2,10 @@
 use Rattle.std.proofs.Common.{◌≡◌, ◌⊎◌, inl, inr, ℕ, Bool, true, false, List, ◌++◌, length, Option, Some, None, is_some, unwrap_or, refl, sym, ap, subst, ◌∙◌}
 use Rattle.std.specs.Prelude.{IsSomeAnd, Ok, Err, option_map}
 use Rattle.std.specs.FinMap as finite
-use Rattle.zot_digest.specs.ByteMap.{ByteMap}
 use Rattle.zot_digest.specs.Digest.{IsSound}
-use Rattle.zot_manifests.proofs.TableLemmas.{get_plain}
 use Rattle.zot_manifests.specs.Check.{check_of}
-use Rattle.zot_manifests.specs.Table.{plain_manifest, plain_manifests}
 use Rattle.zot_manifests.specs.declared.check_error.CheckError.{CheckError}
 use Rattle.zot_manifests.specs.declared.checked.Checked.{Checked}
-use Rattle.zot_manifests.specs.declared.kept.Kept.{Kept}
 use Rattle.zot_media.specs.Referrers.{referrers_text}
 use Rattle.zot_media.specs.declared.media.Media.{Media}
 use Rattle.zot_media.specs.declared.reference.Reference.{Reference}
@@ -22,7 +18,7 @@ use Rattle.zot_model.specs.declared.reply.Reply.{Reply}
 use Rattle.zot_model.specs.declared.reply.Reply.TheVariants.{Blob, BlobHead, BlobMade, Deleted, Manifest, ManifestHead, Referrers}
 use Rattle.zot_model.specs.declared.span.Span.{Span}
 use Rattle.zot_model.specs.Outcomes.{with_blob}
-use Rattle.zot_model.specs.PlainBlobs.{found_or}
+use Rattle.zot_model.specs.PlainBlobs.{found_or, without_blob}
 use Rattle.zot_model.specs.PlainUploads.{with_sessions, with_upload}
 use Rattle.zot_model.specs.Refusals.{not_allowed, refusal}
 use Rattle.zot_model.specs.State.{RepoState, Stored}
@@ -83,6 +79,10 @@ module _ (moment : ℕ) (table : RepoTable) (holds : Holds) (agrees : Agrees tab
   pub delete_needed : (size : ℕ) → AllRead table → size_at table.slots digest ≡ Some size → is_needed_in table digest ≡ true → reply ≡ not_allowed methods.Read
       → MayGive moment (repo_of table holds) (calls.DeleteBlob digest) reply (repo_of table holds)
   delete_needed size all has needs is = plainly.blob_needed moment (repo_of table holds) digest reply (is_there size has) (needed_is table holds agrees all digest ∙ needs) is
+
+  -- one that may go
+  pub delete_ends : (size : ℕ) → AllRead table → size_at table.slots digest ≡ Some size → is_needed_in table digest ≡ false → reply ≡ Deleted → MayGive moment (repo_of table holds) (calls.DeleteBlob digest) reply (without_blob (repo_of table holds) digest)
+  delete_ends size all has free is = plainly.blob_deleted moment (repo_of table holds) (without_blob (repo_of table holds) digest) digest reply (is_there size has) (needed_is table holds agrees all digest ∙ free) is refl
 
   pub delete_made : (after : Holds) (size : ℕ) → AllRead table → size_at table.slots digest ≡ Some size → is_needed_in table digest ≡ false → Sets holds digest None after → reply ≡ Deleted
       → MayGive moment (repo_of table holds) (calls.DeleteBlob digest) reply (repo_of (without_entry table digest) after) × Agrees (without_entry table digest) after
@@ -149,12 +149,6 @@ module _ (moment : ℕ) (table : RepoTable) (holds : Holds) (agrees : Agrees tab
       plainly.put_stored moment (repo_of table holds) new reference media body checked reply
       (subst (λ sizes. (Ok checked ≡ check_of sizes reference media body) ⊎ IsShort (Ok checked)) (sizes_are table holds agrees) right)
       (checked_of (size_at table.slots) reference media body checked right).digest (inl (is, same))
-
-contains_same : (manifests : ByteMap Kept) (digest : List ℕ) → finite.contains_key (plain_manifests manifests) digest ≡ finite.contains_key manifests digest
-contains_same manifests digest = ap is_some (get_plain manifests digest) ∙ mapped (finite.get manifests digest) where
-  mapped : (o : Option Kept) → is_some (option_map plain_manifest o) ≡ is_some o
-  mapped None = refl
-  mapped (Some kept) = refl
 
 -- whether what a reference names is there: the tag, or the manifest
 abbrev pub is_named : RepoTable → Reference → Bool
