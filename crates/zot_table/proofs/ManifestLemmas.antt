@@ -21,7 +21,8 @@ use Rattle.zot_table.proofs.EntryLemmas.{at_each}
 use Rattle.zot_table.proofs.StandingLemmas.{bytes_are, read_blobs, read_elsewhere, read_fits, same_kept, says_held, size_is, slots_read, some_held, with_blobs}
 use Rattle.zot_table.specs.Changes.{with_checked, with_pull_of, without_named}
 use Rattle.zot_table.specs.Standing.{Agrees, Holds, IsReadOf, blobs_of, repo_of}
-use Rattle.zot_table.specs.Tables.{FoundEntry, RepoTable, entry_at, found_at, found_in, found_with, size_at}
+use Rattle.zot_table.specs.Tables.{RepoTable, entry_at, found_at, found_in, found_with, size_at}
+use Rattle.zot_table.specs.declared.found_entry.FoundEntry.{FoundEntry}
 
 -- ---- what a reference finds
 

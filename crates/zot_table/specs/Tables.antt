@@ -10,11 +10,12 @@ use Rattle.zot_layout.specs.declared.index_tag.IndexTag.{IndexTag}
 use Rattle.zot_manifests.specs.Codes.{bytes_code, table_code}
 use Rattle.zot_manifests.specs.Table.{Table, empty_table, found_by, is_referred}
 use Rattle.zot_manifests.specs.declared.kept.Kept.{Kept}
-use Rattle.zot_media.specs.declared.media.Media.{Media}
 use Rattle.zot_media.specs.declared.reference.Reference.{Reference}
+use Rattle.zot_media.specs.declared.reference.Reference.TheVariants as by
 use Rattle.zot_model.specs.State.{StoredTag}
 use Rattle.zot_model.specs.Uploads.{UploadTable, no_uploads, table_code as uploads_code}
 use Rattle.zot_table.specs.declared.blob_entry.BlobEntry.{BlobEntry}
+use Rattle.zot_table.specs.declared.found_entry.FoundEntry.{FoundEntry}
 
 -- ---- blobs
 
@@ -76,12 +77,6 @@ unread_in repo = filter (λ digest. is_unread (entry_at repo.slots digest)) (fin
 abbrev pub is_needed_in : RepoTable → List ℕ → Bool
 is_needed_in repo digest = finite.contains_key repo.table.manifests digest || is_referred repo.table.manifests digest
 
--- a manifest that was found: its digest, its media, and how many bytes it has
-pub record FoundEntry : Type 0 where
-  pub digest : List ℕ
-  pub media : Media
-  pub size : ℕ
-
 -- the manifest of a digest, where it and its blob are there
 abbrev pub found_with : List ℕ → Option Kept → Option ℕ → Option FoundEntry
 found_with digest None size = None
@@ -92,9 +87,14 @@ abbrev pub found_at : RepoTable → Option (List ℕ) → Option FoundEntry
 found_at repo None = None
 found_at repo (Some digest) = found_with digest (finite.get repo.table.manifests digest) (size_at repo.slots digest)
 
--- the manifest that a reference finds
+-- the manifest that a reference finds: its digest, its media, and how many bytes it has
 abbrev pub found_in : RepoTable → Reference → Option FoundEntry
 found_in repo reference = found_at repo (found_by repo.table reference)
+
+-- whether there is a manifest or a tag that a reference names
+abbrev pub has_named : RepoTable → Reference → Bool
+has_named repo (by.Tag tag) = finite.contains_key repo.table.tags tag
+has_named repo (by.Digest digest) = finite.contains_key repo.table.manifests digest
 
 -- ---- its index
 

@@ -2,5 +2,7 @@
 #![tactic(auto)]
 
 mod blob_entry;
+mod found_entry;
 
 pub use crate::blob_entry::BlobEntry;
+pub use crate::found_entry::FoundEntry;
