@@ -1,16 +1,22 @@
--- The index of a table stands for its repository.
-use Rattle.std.proofs.Common.{◌≡◌, ℕ, true, false, cond, List, [], ◌∷◌, map, Some, refl, sym, ap, ◌∙◌}
+-- The index of a table stands for its repository, and a pull leaves what it does.
+use Rattle.std.proofs.Common.{◌≡◌, ℕ, true, false, cond, List, [], ◌∷◌, map, Option, Some, None, refl, sym, ap, ◌∙◌}
 use Rattle.std.specs.Prelude.{option_map}
 use Rattle.std.specs.Cmp.Lexicographic.{nat_list_cmp_total}
 use Rattle.std.specs.FinMap as finite
 use Rattle.std.specs.FinMap.{get-entries, get-from_entries}
 use Rattle.std.specs.FinMap.Entries.{find}
 use Rattle.std.specs.Ordering.{eq_by_cmp}
-use Rattle.zot_digest.specs.ByteMap.{byte_cmp, map_of}
+use Rattle.zot_digest.specs.ByteMap.{ByteMap, byte_cmp, map_of}
 use Rattle.zot_layout.specs.Stands.{AreAlike, opened_manifest, opened_repo, opened_tag, without_pulls}
 use Rattle.zot_manifests.specs.Table.{plain_manifest}
 use Rattle.zot_manifests.specs.declared.kept.Kept.{Kept}
+use Rattle.zot_maps.proofs.Maps.{byte_order, get_elsewhere, get_here}
+use Rattle.zot_media.specs.declared.reference.Reference.{Reference}
+use Rattle.zot_media.specs.declared.reference.Reference.TheVariants as by
+use Rattle.zot_model.specs.Manifests.{after_pull, pulled_at, with_pull}
 use Rattle.zot_model.specs.State.{StoredTag}
+use Rattle.zot_table.proofs.EntryLemmas.{at_each}
+use Rattle.zot_table.specs.Changes.{with_pull_of}
 use Rattle.zot_table.specs.Standing.{Holds, repo_of}
 use Rattle.zot_table.specs.Tables.{RepoTable, Slots, index_manifest, index_of, index_tag}
 
@@ -35,3 +41,21 @@ index_alike table holds known = record {
       ap (option_map without_pulls) (get-entries table.table.tags tag) ∙ each_tag tag (finite.entries table.table.tags)
       ∙ ap (option_map without_pulls) (sym (get-from_entries nat_list_cmp_total (map opened_tag (map index_tag (finite.entries table.table.tags))) tag));
 }
+
+-- ---- pulls
+
+pulled_alike : (moment : ℕ) (tags : ByteMap StoredTag) (tag : List ℕ) (found : Option StoredTag) → finite.get tags tag ≡ found
+    → (q : List ℕ) → option_map without_pulls (finite.get (with_pull moment tags tag found) q) ≡ option_map without_pulls (finite.get tags q)
+pulled_alike moment tags tag None is = λ q. refl
+pulled_alike moment tags tag (Some stored) is =
+    at_each (λ q. option_map without_pulls (finite.get (finite.insert tags tag (pulled_at moment stored)) q) ≡ option_map without_pulls (finite.get tags q)) tag
+    (ap (option_map without_pulls) (get_here byte_order tags tag (pulled_at moment stored)) ∙ ap (option_map without_pulls) (sym is))
+    (λ q apart. ap (option_map without_pulls) (get_elsewhere byte_order tags tag (pulled_at moment stored) q apart))
+
+after_alike : (moment : ℕ) (tags : ByteMap StoredTag) (reference : Reference) (q : List ℕ) → option_map without_pulls (finite.get (after_pull moment tags reference) q) ≡ option_map without_pulls (finite.get tags q)
+after_alike moment tags (by.Tag tag) = pulled_alike moment tags tag (finite.get tags tag) refl
+after_alike moment tags (by.Digest digest) = λ q. refl
+
+-- a pull isn't stored
+pub pull_alike : (moment : ℕ) (table : RepoTable) (holds : Holds) (reference : Reference) → AreAlike (repo_of table holds) (repo_of (with_pull_of moment table reference) holds)
+pull_alike moment table holds reference = record { known = refl; manifests = refl; tags = after_alike moment table.table.tags reference }

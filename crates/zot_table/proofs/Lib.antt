@@ -8,3 +8,4 @@ pub mod IndexLemmas
 pub mod StepLemmas
 pub mod ChangeLemmas
 pub mod LeavingLemmas
+pub mod SinceLemmas

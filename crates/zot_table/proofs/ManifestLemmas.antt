@@ -18,10 +18,11 @@ use Rattle.zot_repo.proofs.ManifestLemmas.{checked_is, named_at, unnamed}
 use Rattle.zot_repo.specs.Replies.{with_checked as plain_with_checked}
 use Rattle.zot_repo.specs.Repository.{IsOf}
 use Rattle.zot_table.proofs.EntryLemmas.{at_each}
-use Rattle.zot_table.proofs.StandingLemmas.{bytes_are, read_blobs, read_elsewhere, read_fits, says_held, size_is, slots_read, some_held, with_blobs}
+use Rattle.zot_table.proofs.StandingLemmas.{bytes_are, read_blobs, read_elsewhere, read_fits, same_kept, says_held, size_is, slots_read, some_held, with_blobs}
 use Rattle.zot_table.specs.Changes.{with_checked, with_pull_of, without_named}
 use Rattle.zot_table.specs.Standing.{Agrees, Holds, IsReadOf, blobs_of, repo_of}
-use Rattle.zot_table.specs.Tables.{FoundEntry, RepoTable, entry_at, found_at, found_in, found_with, size_at}
+use Rattle.zot_table.specs.Tables.{RepoTable, entry_at, found_at, found_in, found_with, size_at}
+use Rattle.zot_table.specs.declared.found_entry.FoundEntry.{FoundEntry}
 
 -- ---- what a reference finds
 
@@ -86,9 +87,6 @@ module _ (table : RepoTable) (holds : Holds) (agrees : Agrees table holds) (refe
   found_held found h = some_held table holds agrees found.digest found.size (found_sized found h)
 
 -- ---- a manifest that was checked
-
-same_kept : (x y : Kept) → Some x ≡ Some y → x ≡ y
-same_kept x y h = ap (λ o. unwrap_or o x) h
 
 module _ (moment : ℕ) (table : RepoTable) (holds : Holds) (checked : Checked) where
   abbrev kept_now : Kept

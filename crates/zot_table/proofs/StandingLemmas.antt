@@ -234,7 +234,7 @@ module _ (slots : Slots) (holds : Holds) (digest : List ℕ) where
 pub says_held : (kept : Kept) (entry : Option BlobEntry) (found : Option (List ℕ)) (bytes : List ℕ) → found ≡ Some bytes → kept.reading ≡ stored_reading kept.media bytes → IsReadOf kept entry found
 says_held kept entry found bytes is says = inr (says ∙ ap (λ o. reading_by (plain_manifest kept) (as_stored o)) (sym is))
 
-same_kept : (x y : Kept) → Some x ≡ Some y → x ≡ y
+pub same_kept : (x y : Kept) → Some x ≡ Some y → x ≡ y
 same_kept x y h = ap (λ o. unwrap_or o x) h
 
 module _ (table : Table) (digest bytes : List ℕ) where

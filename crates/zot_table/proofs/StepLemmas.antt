@@ -1,15 +1,11 @@
 -- What is answered by a table is what the plain registry answers.
-use Rattle.std.proofs.Common.{◌≡◌, ◌⊎◌, inl, inr, ℕ, Bool, true, false, List, ◌++◌, length, Option, Some, None, is_some, unwrap_or, refl, sym, ap, subst, ◌∙◌}
+use Rattle.std.proofs.Common.{◌≡◌, ◌⊎◌, inl, inr, ℕ, true, false, List, ◌++◌, length, Option, Some, None, is_some, unwrap_or, refl, sym, ap, subst, ◌∙◌}
 use Rattle.std.specs.Prelude.{IsSomeAnd, Ok, Err, option_map}
 use Rattle.std.specs.FinMap as finite
-use Rattle.zot_digest.specs.ByteMap.{ByteMap}
 use Rattle.zot_digest.specs.Digest.{IsSound}
-use Rattle.zot_manifests.proofs.TableLemmas.{get_plain}
 use Rattle.zot_manifests.specs.Check.{check_of}
-use Rattle.zot_manifests.specs.Table.{plain_manifest, plain_manifests}
 use Rattle.zot_manifests.specs.declared.check_error.CheckError.{CheckError}
 use Rattle.zot_manifests.specs.declared.checked.Checked.{Checked}
-use Rattle.zot_manifests.specs.declared.kept.Kept.{Kept}
 use Rattle.zot_media.specs.Referrers.{referrers_text}
 use Rattle.zot_media.specs.declared.media.Media.{Media}
 use Rattle.zot_media.specs.declared.reference.Reference.{Reference}
@@ -22,7 +18,7 @@ use Rattle.zot_model.specs.declared.reply.Reply.{Reply}
 use Rattle.zot_model.specs.declared.reply.Reply.TheVariants.{Blob, BlobHead, BlobMade, Deleted, Manifest, ManifestHead, Referrers}
 use Rattle.zot_model.specs.declared.span.Span.{Span}
 use Rattle.zot_model.specs.Outcomes.{with_blob}
-use Rattle.zot_model.specs.PlainBlobs.{found_or}
+use Rattle.zot_model.specs.PlainBlobs.{found_or, without_blob}
 use Rattle.zot_model.specs.PlainUploads.{with_sessions, with_upload}
 use Rattle.zot_model.specs.Refusals.{not_allowed, refusal}
 use Rattle.zot_model.specs.State.{RepoState, Stored}
@@ -39,7 +35,8 @@ use Rattle.zot_table.proofs.ReadingLemmas.{manifest_needed, needed_is, not_neede
 use Rattle.zot_table.proofs.StandingLemmas.{bytes_are, clear_agrees, clear_is, none_held, none_stored, size_is, sizes_are}
 use Rattle.zot_table.specs.Changes.{known_as, with_pull_of, with_uploads, without_entry, without_named}
 use Rattle.zot_table.specs.Standing.{Agrees, AllRead, Holds, Sets, repo_of}
-use Rattle.zot_table.specs.Tables.{FoundEntry, RepoTable, found_in, is_needed_in, size_at}
+use Rattle.zot_table.specs.Tables.{RepoTable, found_in, has_named, is_needed_in, size_at}
+use Rattle.zot_table.specs.declared.found_entry.FoundEntry.{FoundEntry}
 use Rattle.zot_uploads.specs.Cases.{IsWhole}
 
 -- ---- blobs
@@ -83,6 +80,10 @@ module _ (moment : ℕ) (table : RepoTable) (holds : Holds) (agrees : Agrees tab
   pub delete_needed : (size : ℕ) → AllRead table → size_at table.slots digest ≡ Some size → is_needed_in table digest ≡ true → reply ≡ not_allowed methods.Read
       → MayGive moment (repo_of table holds) (calls.DeleteBlob digest) reply (repo_of table holds)
   delete_needed size all has needs is = plainly.blob_needed moment (repo_of table holds) digest reply (is_there size has) (needed_is table holds agrees all digest ∙ needs) is
+
+  -- one that may go
+  pub delete_ends : (size : ℕ) → AllRead table → size_at table.slots digest ≡ Some size → is_needed_in table digest ≡ false → reply ≡ Deleted → MayGive moment (repo_of table holds) (calls.DeleteBlob digest) reply (without_blob (repo_of table holds) digest)
+  delete_ends size all has free is = plainly.blob_deleted moment (repo_of table holds) (without_blob (repo_of table holds) digest) digest reply (is_there size has) (needed_is table holds agrees all digest ∙ free) is refl
 
   pub delete_made : (after : Holds) (size : ℕ) → AllRead table → size_at table.slots digest ≡ Some size → is_needed_in table digest ≡ false → Sets holds digest None after → reply ≡ Deleted
       → MayGive moment (repo_of table holds) (calls.DeleteBlob digest) reply (repo_of (without_entry table digest) after) × Agrees (without_entry table digest) after
@@ -150,24 +151,13 @@ module _ (moment : ℕ) (table : RepoTable) (holds : Holds) (agrees : Agrees tab
       (subst (λ sizes. (Ok checked ≡ check_of sizes reference media body) ⊎ IsShort (Ok checked)) (sizes_are table holds agrees) right)
       (checked_of (size_at table.slots) reference media body checked right).digest (inl (is, same))
 
-contains_same : (manifests : ByteMap Kept) (digest : List ℕ) → finite.contains_key (plain_manifests manifests) digest ≡ finite.contains_key manifests digest
-contains_same manifests digest = ap is_some (get_plain manifests digest) ∙ mapped (finite.get manifests digest) where
-  mapped : (o : Option Kept) → is_some (option_map plain_manifest o) ≡ is_some o
-  mapped None = refl
-  mapped (Some kept) = refl
-
--- whether what a reference names is there: the tag, or the manifest
-abbrev pub is_named : RepoTable → Reference → Bool
-is_named table (by.Tag tag) = finite.contains_key table.table.tags tag
-is_named table (by.Digest digest) = finite.contains_key table.table.manifests digest
-
 module _ (moment : ℕ) (table : RepoTable) (holds : Holds) where
-  pub delete_manifest_none : (reference : Reference) (reply : Reply) → is_named table reference ≡ false → reply ≡ refusal ManifestUnknown → MayGive moment (repo_of table holds) (calls.DeleteManifest reference) reply (repo_of table holds)
+  pub delete_manifest_none : (reference : Reference) (reply : Reply) → has_named table reference ≡ false → reply ≡ refusal ManifestUnknown → MayGive moment (repo_of table holds) (calls.DeleteManifest reference) reply (repo_of table holds)
   delete_manifest_none (by.Tag tag) reply none is = plainly.tag_unknown moment (repo_of table holds) (repo_of table holds) tag reply none is refl
   delete_manifest_none (by.Digest digest) reply none is =
       plainly.manifest_unknown table.known (repo_of table holds).blobs table.table table.table table.sessions moment digest reply none is refl
 
-  pub delete_manifest_made : (reference : Reference) (reply : Reply) → is_named table reference ≡ true → reply ≡ Deleted
+  pub delete_manifest_made : (reference : Reference) (reply : Reply) → has_named table reference ≡ true → reply ≡ Deleted
       → MayGive moment (repo_of table holds) (calls.DeleteManifest reference) reply (repo_of (without_named table reference) holds)
   delete_manifest_made (by.Tag tag) reply has is = plainly.tag_deleted moment (repo_of table holds) (repo_of (without_named table (by.Tag tag)) holds) tag reply has is refl
   delete_manifest_made (by.Digest digest) reply has is =
