@@ -1,8 +1,8 @@
-//! Between members: what a request looks like that one member hands on to another, and what each may count on that asks one.
+//! Between members: the bytes by which one hands a request on to another, and what it may count on that asks one.
 //!
-//! `forwarded(alloc, &request)` gives the head by which a request is handed on and lends its body; the member that reads both
-//! reads the request, with its hop. `Peer` is the contract of the members that can be asked, and
-//! `MemoryPeer::new(replies, failing)` answers with these replies in order and keeps what it was asked.
+//! `forwarded(alloc, &request)` gives the head of these bytes and lends the body; the member that reads both reads the
+//! request, with its hop. `Peer` is the contract of the members that can be asked, and `MemoryPeer::new(alloc, replies,
+//! failing)` are members that answer with these replies, in order, and keep what they were asked.
 #![tactic(auto)]
 
 mod asked;
