@@ -10,15 +10,18 @@ mod names;
 mod readings;
 mod rows;
 mod values;
+mod writes;
 
 use std::io;
 use std::process::ExitCode;
 use zot_cases::{Answer, Case, run};
 use zot_digest::ordered_as_text;
 use zot_layout::{
-    a_marker_makes_known, a_path_is_of_one_repository, a_write_is_of_one_repository,
-    an_index_is_the_state, other_paths_leave_a_repository, what_is_read_is_an_index,
-    what_is_stored_elsewhere_leaves_it, without_a_marker_it_is_fresh,
+    a_layout_lies_at_two_paths, a_marker_makes_known, a_marker_tells_what_is_known,
+    a_path_is_of_one_repository, a_write_is_of_one_repository, an_index_is_the_state,
+    other_paths_leave_a_repository, the_later_write_counts, the_own_marker_is_read,
+    what_is_read_is_an_index, what_is_stored_elsewhere_leaves_it, what_is_written_is_the_rows,
+    what_is_not_stored_leaves_the_row, without_a_marker_it_is_fresh,
 };
 use zot_media::{annotations_ascend, only_texts_are_read, text_is_read};
 use zot_names::{bytes_of_names, bytes_of_tags, components_of_names};
@@ -48,6 +51,7 @@ fn call(case: &Case, answer: &mut Answer) {
         "written" => layouts::written(answer, given),
         "marker" => layouts::marker(answer, given),
         "rows" => rows::rows(answer, given),
+        "writes" => writes::writes(answer, given),
         _ => answer.fail("no such call"),
     }
 }
@@ -70,5 +74,12 @@ fn main(rt: HostRuntime) -> io::Result<ExitCode> {
     without_a_marker_it_is_fresh();
     a_write_is_of_one_repository();
     what_is_stored_elsewhere_leaves_it();
+    // And of what is written of one repository.
+    the_own_marker_is_read();
+    a_layout_lies_at_two_paths();
+    a_marker_tells_what_is_known();
+    the_later_write_counts();
+    what_is_written_is_the_rows();
+    what_is_not_stored_leaves_the_row();
     run(&rt, call)
 }

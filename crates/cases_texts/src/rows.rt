@@ -24,8 +24,8 @@ pub fn rows(answer: &mut Answer, given: &str) {
     }
 }
 
-// The objects of a store.
-fn objects_of(answer: &mut Answer, given: &str) -> Vec<(String, Vec<u8>)> {
+/// The objects of a store.
+pub fn objects_of(answer: &mut Answer, given: &str) -> Vec<(String, Vec<u8>)> {
     let mut objects = Vec::new(answer.alloc());
     for object in given.split("; ") {
         let (path, bytes) = cut(object, " ");

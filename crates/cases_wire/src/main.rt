@@ -1,8 +1,9 @@
-//! Cases of the wire: requests and replies read, and spelled again.
+//! Cases of the wire: requests and replies read, and spelled again, and members in memory.
 //!
 //! A case as `split-no-fields: split HTTP/1.1 204 No Content|| => (204, 0)` makes the calls `split_reply` and `join_head`.
 #![tactic(auto)]
 
+mod peers;
 mod replies;
 mod requests;
 
@@ -18,6 +19,7 @@ fn call(case: &Case, answer: &mut Answer) {
     match case.call {
         "request" => requests::request(answer, case.given),
         "long" => requests::long(answer, case.given),
+        "peer" => peers::peer(answer, case.given),
         "reply" => replies::reply(answer, case.given),
         "made" => replies::made(answer, case.given),
         "split" => replies::split(answer, case.given),

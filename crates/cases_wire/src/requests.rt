@@ -7,27 +7,28 @@ use zot_cases::Answer;
 use zot_delivery::carry;
 use zot_head::{Found, find_head, read_head};
 use zot_model::{BODY_LIMIT, Request};
+use zot_proxy::forwarded;
 use zot_route::{ParsedHead, Routed, route};
 use zot_spell::{body_of, head_and_body, spell_request, spell_request_head};
 
-/// The request of a message. It is spelled as the message, and carried to another member.
+/// The request of a message. It is spelled as the message, and handed on to another member.
 pub fn request(answer: &mut Answer, given: &str) {
     let message = answer.read(given);
     let Some(request) = received(answer.alloc(), message.as_slice()) else {
         return answer.fail("no request");
     };
     spell(answer, &request, message.as_slice());
-    carry_both(answer, &request);
+    hand_on(answer, &request);
     answer.show(&request);
 }
 
-/// Where a connection finds the end of a request's head, which has no body. It is carried to another member.
+/// Where a connection finds the end of a request's head, which has no body. It is handed on to another member.
 pub fn long(answer: &mut Answer, given: &str) {
     let message = answer.read(given);
     let Some(request) = asked(answer.alloc(), message.as_slice(), b"") else {
         return answer.fail("no request");
     };
-    carry_both(answer, &request);
+    hand_on(answer, &request);
     answer.show(&find_head(message.as_slice()));
 }
 
@@ -76,16 +77,32 @@ fn spell(answer: &mut Answer, request: &Request, message: &[u8]) {
     answer.confirm(alone.as_slice() == head, "another head");
 }
 
-// Another member reads the request, handed on or not.
-fn carry_both(answer: &mut Answer, request: &Request)
+// Another member reads the request, carried with its hop or without it, and of the bytes that are sent to it.
+fn hand_on(answer: &mut Answer, request: &Request)
     requires { IsValid request.now }
 {
     for hop in [true, false] {
-        let Ok(other) = carry(answer.alloc(), request, hop) else {
-            return answer.fail("out of memory");
-        };
-        answer.confirm(other.name == request.name, "carried to another name");
-        answer.confirm(other.call == request.call, "carried as another call");
-        answer.confirm(other.hop == hop, "carried with another hop");
+        let other = carry(answer.alloc(), request, hop).ok();
+        compare(answer, request, other, hop);
     }
+    let other = read_forwarded(answer.alloc(), request);
+    compare(answer, request, other, true);
+}
+
+// The request that is read of the bytes by which this one is handed on.
+fn read_forwarded(alloc: Global, request: &Request) -> Option<Request> {
+    let Ok(wire) = forwarded(alloc, request) else {
+        return None;
+    };
+    asked(alloc, wire.head.as_slice(), wire.body)
+}
+
+// Another member read the same request, with this hop.
+fn compare(answer: &mut Answer, request: &Request, other: Option<Request>, hop: bool) {
+    let Some(other) = other else {
+        return answer.fail("not read");
+    };
+    answer.confirm(other.name == request.name, "read with another name");
+    answer.confirm(other.call == request.call, "read as another call");
+    answer.confirm(other.hop == hop, "read with another hop");
 }

@@ -6,7 +6,7 @@ use Rattle.zot_model.proofs.HistoryLemmas.{run_later, same_alike, same_itself}
 use Rattle.zot_model.specs.declared.reply.Reply.{Reply}
 use Rattle.zot_model.specs.declared.request.Request.{Request}
 use Rattle.zot_model.specs.declared.call.Call.{Call}
-use Rattle.zot_model.specs.History.{Entry, Event, Happens, Run, Step, asked, failed, lacked, named, retired, scrubbed, swept, swept_all}
+use Rattle.zot_model.specs.History.{Entry, Event, Happens, Run, Step, asked, failed, lacked, mounted, named, retired, scrubbed, swept, swept_all}
 use Rattle.zot_model.specs.Plain.{Goes, IsPlain, MayAnswer, Rise, Stay}
 use Rattle.zot_model.specs.Refusals.{no_memory}
 use Rattle.zot_model.specs.State.{AreSame, RowState}
@@ -51,6 +51,7 @@ plain_happens (Some name) moment old new call reply (inr (inr fails)) had none =
 
 plain_step : (event : Event) (moment : ℕ) (old new : RowState) → Happens old moment event new → HadMemory event → new.faults ≡ 0 → HappensPlainly old moment event new
 plain_step (asked request reply) moment old new h had none = plain_happens request.name moment old new request.call reply h had none
+plain_step (mounted request reply bytes) moment old new h had none = h
 plain_step (retired name rules delay gone) moment old new h had none = h
 plain_step (swept name delay digest) moment old new h had none = h
 plain_step (swept_all name delay) moment old new h had none = h

@@ -7,7 +7,7 @@ use Rattle.zot_model.specs.declared.reply.Reply.TheVariants.{Base}
 use Rattle.zot_model.specs.declared.request.Request.{Request}
 use Rattle.zot_model.specs.declared.row.RowCall.TheVariants.{Ask}
 use Rattle.zot_model.specs.declared.row.RowReply.TheVariants as answers
-use Rattle.zot_model.specs.History.{Enters, Entry, Event, Happens, Run, StandFor, asked, failed, lacked, named, retired, scrubbed, swept, swept_all}
+use Rattle.zot_model.specs.History.{Enters, Entry, Event, Happens, Run, StandFor, asked, failed, lacked, mounted, named, retired, scrubbed, swept, swept_all}
 use Rattle.zot_model.specs.Plain.{Goes, IsPlain, Stay}
 use Rattle.zot_model.specs.Refusals.{no_memory}
 use Rattle.zot_model.specs.State.{AreSame, RowState}
@@ -32,6 +32,7 @@ AreEntries told (declined message reply ∷ exchanges) entries = AreEntries told
 -- what happened is what the plain registry does by the first case that fits
 abbrev pub HappensPlainly : RowState → ℕ → Event → RowState → Type 0
 HappensPlainly old moment (asked request reply) new = IsSomeAnd request.name (λ name. Goes Stay (λ repo after. IsPlain moment repo request.call reply after) old name new)
+HappensPlainly old moment (mounted request reply bytes) new = Happens old moment (mounted request reply bytes) new
 HappensPlainly old moment (retired name rules delay gone) new = Happens old moment (retired name rules delay gone) new
 HappensPlainly old moment (swept name delay digest) new = Happens old moment (swept name delay digest) new
 HappensPlainly old moment (swept_all name delay) new = Happens old moment (swept_all name delay) new
@@ -50,6 +51,7 @@ PlainRun old entries new = RunTo AreSame PlainStep old entries new
 -- no entry says that memory ran out
 abbrev pub HadMemory : Event → Type 0
 HadMemory (asked request reply) = reply ≢ no_memory
+HadMemory (mounted request reply bytes) = ⊤
 HadMemory (retired name rules delay gone) = ⊤
 HadMemory (swept name delay digest) = ⊤
 HadMemory (swept_all name delay) = ⊤

@@ -3,6 +3,6 @@ pub mod Shards
 pub mod Holdings
 pub mod Listing
 pub mod Opening
-pub mod Holders
 pub mod Answers
 pub mod Places
+pub mod Holders

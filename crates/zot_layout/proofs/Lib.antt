@@ -13,3 +13,5 @@ pub mod RowLemmas
 pub mod WalkLemmas
 pub mod StandsLemmas
 pub mod OpeningLemmas
+pub mod ToldLemmas
+pub mod WritingLemmas

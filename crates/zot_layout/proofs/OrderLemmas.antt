@@ -1,5 +1,5 @@
 -- What is read of an index is in order, and each of its tags is one of a listed manifest.
-use Rattle.std.proofs.Common.{◌≡◌, ℕ, ◌<◌, ◌^◌, Bool, true, false, List, [], ◌∷◌, map, Option, Some, None, option_and_then, refl, sym, ap, subst, ◌∙◌}
+use Rattle.std.proofs.Common.{◌≡◌, ℕ, ◌<◌, ◌^◌, Bool, true, false, List, [], ◌∷◌, map, Option, Some, None, option_and_then, arith, refl, sym, ap, subst, ◌∙◌}
 use Rattle.std.specs.Prelude.{◌||◌, ◌&&◌, T, ⊤, codes, if◌then◌else◌, nat_lt, Ok, Err}
 use Rattle.std.specs.BTreeMap.{insert_entry}
 use Rattle.std.specs.FinMap.Entries.{is_sorted, is_sorted-put}
@@ -27,6 +27,7 @@ use Rattle.zot_names.specs.Tag.{IsTag}
 use Rattle.zot_layout.specs.Moments.{are_digits, moment_by, moment_named, moment_of, moment_or, moment_within}
 use Rattle.zot_layout.specs.Notes.{is_tag, listed_of, note_of, tag_in, tag_named}
 use Rattle.zot_layout.specs.Reading.{has_version, items_in, listed_in, manifest_of, may_stand, meaning, meaning_in, meaning_of, state_of, tag_by, tag_of, with_manifest, with_manifests, with_tag, with_tags}
+use Rattle.zot_layout.specs.Rows.{empty_index}
 use Rattle.zot_layout.specs.State.{IsIndex, IsManifest, IsTagOf}
 use Rattle.zot_layout.specs.declared.index_state.IndexState.{IndexState}
 use Rattle.zot_layout.specs.declared.layout_error.LayoutError.TheVariants.{BadMeta}
@@ -255,6 +256,10 @@ module _ (moment : ℕ) (small : IsSmall moment) where
         digests_ascend = subst (IsStrictlySortedBy byte_cmp) (sym (map_twice manifest_of (λ manifest. manifest.digest) (λ e. e.0) (λ e. refl) ms)) (keys_ascend byte_cmp ms one.0);
         tags_ascend = subst (IsStrictlySortedBy byte_cmp) (sym (map_twice tag_of (λ tag. tag.tag) (λ e. e.0) (λ e. refl) ts)) (keys_ascend byte_cmp ts other.0);
       }
+
+-- an index of nothing is one
+pub empty_ordered : IsIndex empty_index
+empty_ordered = state_ordered 0 (omega arith) [] tt
 
 -- what is read of bytes is the state of an index
 pub meaning_ordered : (path bytes : List ℕ) (moment : ℕ) (state : IndexState) → moment < 2 ^ 64 → meaning path bytes moment ≡ Ok state → IsIndex state

@@ -7,7 +7,7 @@ use Rattle.zot_layout.specs.Causes.{Answers}
 use Rattle.zot_layout.specs.Marker.{is_marker, marker_meaning}
 use Rattle.zot_layout.specs.Paths.{index_path, marker_path}
 use Rattle.zot_layout.specs.Reading.{IsJust, IsWhy, meaning}
-use Rattle.zot_layout.specs.Rows.{Opened, before, empty_index, index_by, known_by, layout_by, layout_of, opened, with_first}
+use Rattle.zot_layout.specs.Rows.{Opened, empty_index, index_by, known_by, layout_by, layout_of, opened, with_first}
 use Rattle.zot_layout.specs.declared.index_state.IndexState.{IndexState}
 use Rattle.zot_layout.specs.declared.layout_error.LayoutError.{LayoutError}
 use Rattle.zot_layout.specs.declared.layout_error.LayoutError.TheVariants as errors

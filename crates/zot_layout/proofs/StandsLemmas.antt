@@ -121,7 +121,7 @@ module _ (objects : Objects) (moment : ℕ) (name : List ℕ) where
 
 -- ---- what a write at one path leaves
 
-same_layout : (old new : Objects) (name : List ℕ) (moment : ℕ) → finite.get new (marker_path name) ≡ finite.get old (marker_path name) → finite.get new (index_path name) ≡ finite.get old (index_path name)
+pub same_layout : (old new : Objects) (name : List ℕ) (moment : ℕ) → finite.get new (marker_path name) ≡ finite.get old (marker_path name) → finite.get new (index_path name) ≡ finite.get old (index_path name)
     → layout_of new name moment ≡ layout_of old name moment
 same_layout old new name moment marker index = ap (λ o. layout_by name moment o (finite.get new (index_path name))) marker ∙ ap (layout_by name moment (finite.get old (marker_path name))) index
 

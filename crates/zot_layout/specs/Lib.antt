@@ -10,3 +10,4 @@ pub mod Causes
 pub mod Rows
 pub mod Walks
 pub mod Stands
+pub mod Writing

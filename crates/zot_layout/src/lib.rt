@@ -3,6 +3,7 @@
 //! `index_text(alloc, &state)` is the text of `index.json` for what a repository has of manifests and tags, and
 //! `read_index(alloc, path, bytes, moment)` is exactly what such bytes mean, also as other tools write them.
 //! `open_row(alloc, &mut part, row, members, &key, moment)` gives the repositories of a row that a store holds.
+//! `put_index`, `make_known` and `forget` write what a row has of one repository.
 #![tactic(auto)]
 
 mod descriptors;
@@ -25,6 +26,8 @@ mod repository;
 mod sorting;
 mod text;
 mod walking;
+mod writing;
+mod written_laws;
 
 pub use crate::index_manifest::{IndexManifest, IndexManifestList};
 pub use crate::index_state::IndexState;
@@ -38,5 +41,10 @@ pub use crate::layout_error::LayoutError;
 pub use crate::marker::{marker_text, read_marker};
 pub use crate::opening::open_row;
 pub use crate::reading::read_index;
-pub use crate::repository::read_layout;
+pub use crate::repository::{empty_index, read_layout};
 pub use crate::text::index_text;
+pub use crate::writing::{forget, make_known, put_index};
+pub use crate::written_laws::{
+    a_layout_lies_at_two_paths, a_marker_tells_what_is_known, the_later_write_counts,
+    the_own_marker_is_read, what_is_not_stored_leaves_the_row, what_is_written_is_the_rows,
+};

@@ -5,6 +5,7 @@ ghost use Rattle.zot_outside.specs.Objects.{Keeps};
 ghost use Rattle.zot_layout.specs.Causes.{Answers, HasLayoutCause, SaysNothing};
 ghost use Rattle.zot_layout.specs.Paths.{index_path};
 ghost use Rattle.zot_layout.specs.Rows.{empty_index, index_by, layout_of};
+ghost use Rattle.zot_layout.specs.State.{IsIndex};
 
 use crate::index_manifest::IndexManifestList;
 use crate::index_state::IndexState;
@@ -57,9 +58,10 @@ fn read_own_index<S: Store>(
     }
 }
 
-// An index without manifests and tags. Takes no memory.
-fn empty_index(alloc: Global) -> IndexState
-    ensures { result ≡ empty_index }
+/// An index without manifests and tags, as a new repository has it. Takes no memory.
+pub fn empty_index(alloc: Global) -> IndexState
+    ensures empty { result ≡ empty_index }
+    ensures index { IsIndex result }
 {
     IndexState {
         manifests: IndexManifestList::new(Vec::new(alloc)),

@@ -25,3 +25,4 @@ pub use crate::index::Index;
 pub use crate::kept::Kept;
 pub use crate::manifests::Manifests;
 pub use crate::page::Page;
+pub use crate::tag_entry::TagEntry;

@@ -1,6 +1,7 @@
 //! The manifests of a repository.
 ghost use Rattle.std.specs.Prelude.{◌≡◌, ◌↔◌, IfOk, IsTrue, OnErr, OnOk, None, option_copied};
 ghost use Rattle.std.specs.FinMap as finite;
+ghost use Rattle.zot_digest.specs.ByteMap.{map_of};
 ghost use Rattle.zot_manifests.specs.Table.{put_back};
 
 use crate::kept::Kept;
@@ -42,6 +43,13 @@ impl ManifestMap {
         ensures { IsTrue result ↔ (self.now ≡ finite.empty) }
     {
         self.tree.is_empty()
+    }
+
+    /// The manifests in a tree.
+    pub fn tree(&self) -> &BTreeMap<Digest, Kept>
+        ensures { map_of result.now.entries ≡ self.now }
+    {
+        &self.tree
     }
 
     /// The manifest of a digest.

@@ -1,6 +1,8 @@
 //! The manifests and tags of one repository.
 ghost use Rattle.std.specs.Prelude.{◌≡◌, ◌≢◌, false, true, IfOk, IsTrue, OnErr, OnOk, option_copied, option_map};
 ghost use Rattle.std.specs.FinMap as finite;
+ghost use Rattle.zot_digest.specs.ByteMap.{map_of};
+ghost use Rattle.zot_manifests.specs.Tags.{AreTags};
 ghost use Rattle.zot_manifests.specs.Table.{empty_table, found_by, is_referred, pulled, put_back, says, with_manifest, without_manifest, without_tag};
 ghost use Rattle.zot_model.specs.Manifests.{with_tag};
 ghost use Rattle.zot_model.specs.Pages.{page};
@@ -13,8 +15,9 @@ use crate::page::Page;
 use crate::tag_entry::TagEntry;
 use crate::tags::Tags;
 use std::alloc::{AllocError, Global};
+use std::collections::BTreeMap;
 use std::marker::Model;
-use zot_digest::Digest;
+use zot_digest::{Digest, Words};
 use zot_media::Reference;
 use zot_names::Tag;
 
@@ -90,6 +93,20 @@ impl Manifests {
         )
     }
 
+    /// Sets a tag to the manifest of a digest at the moment. After an `Err`, which comes only where memory runs out, the table is as it was.
+    pub fn set_tag(
+        &mut self,
+        alloc: Global,
+        tag: Tag,
+        digest: Digest,
+        moment: u64,
+    ) -> Result<(), AllocError>
+        ensures ok { OnOk result (self.new ≡ record { manifests = self.old.manifests; tags = with_tag moment self.old.tags (Some tag) digest }) }
+        ensures err { OnErr result (self.new ≡ self.old) }
+    {
+        self.tags.set(alloc, tag, TagEntry::new(digest, moment))
+    }
+
     /// Removes a tag, and answers whether there was one; else nothing changes. Takes no memory.
     pub fn remove_tag(&mut self, tag: &Tag) -> bool
         ensures was { result ≡ finite.contains_key self.old.tags tag.now }
@@ -137,6 +154,35 @@ impl Manifests {
         ensures { option_copied result ≡ finite.get self.now.manifests digest.now }
     {
         self.manifests.get(digest)
+    }
+
+    /// Whether there is a manifest of a digest. Takes no memory.
+    pub fn has(&self, digest: &Digest) -> bool
+        ensures { result ≡ finite.contains_key self.now.manifests digest.now }
+    {
+        self.manifests.get(digest).is_some()
+    }
+
+    /// Whether there is a tag. Takes no memory.
+    pub fn has_tag(&self, tag: &Tag) -> bool
+        ensures { result ≡ finite.contains_key self.now.tags tag.now }
+    {
+        self.tags.map().get(tag).is_some()
+    }
+
+    /// The manifests in a tree by their digests.
+    pub fn manifests(&self) -> &BTreeMap<Digest, Kept>
+        ensures { map_of result.now.entries ≡ self.now.manifests }
+    {
+        self.manifests.tree()
+    }
+
+    /// The tags in a tree by their texts.
+    pub fn tags(&self) -> &BTreeMap<Words, TagEntry>
+        ensures value { map_of result.now.entries ≡ self.now.tags }
+        ensures tags { AreTags (map_of result.now.entries) }
+    {
+        self.tags.map().tree()
     }
 
     /// The page of at most n tags after a text, in byte order. It fails only where memory runs out.

@@ -44,6 +44,13 @@ impl TagEntry {
         self.digest
     }
 
+    /// The moment at which it was pushed, in seconds.
+    pub fn pushed(&self) -> u64
+        ensures { result ≡ self.now.pushed }
+    {
+        self.pushed
+    }
+
     /// Counts a pull at the moment; the count stands still at the greatest number of 64 bits.
     pub fn pull(&mut self, moment: u64)
         ensures { self.new ≡ pulled_at moment self.old }

@@ -4,8 +4,8 @@ ghost use Rattle.std.specs.FinMap as finite;
 ghost use Rattle.std.specs.List.{AllByRecursion};
 ghost use Rattle.std.specs.BTreeMap.{is_at};
 ghost use Rattle.std.specs.BTreeSet.{contains};
-ghost use Rattle.zot_digest.specs.ByteMap.{byte_cmp};
-ghost use Rattle.zot_manifests.specs.Tags.{after, kept_unless};
+ghost use Rattle.zot_digest.specs.ByteMap.{byte_cmp, map_of};
+ghost use Rattle.zot_manifests.specs.Tags.{AreTags, after, kept_unless};
 ghost use Rattle.zot_model.specs.Manifests.{is_tag_of, with_pull};
 ghost use Rattle.zot_model.specs.Pages.{last_of, page};
 ghost use Rattle.zot_names.specs.Tag.{IsTag};
@@ -56,6 +56,14 @@ impl TagMap {
         ensures { IsTrue result ↔ (self.now ≡ finite.empty) }
     {
         self.tree.is_empty()
+    }
+
+    /// The tags in a tree.
+    pub fn tree(&self) -> &BTreeMap<Words, TagEntry>
+        ensures value { map_of result.now.entries ≡ self.now }
+        ensures tags { AreTags (map_of result.now.entries) }
+    {
+        &self.tree
     }
 
     /// What is kept of a tag.

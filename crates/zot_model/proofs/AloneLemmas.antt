@@ -15,7 +15,7 @@ use Rattle.zot_model.specs.declared.call.Call.{Call}
 use Rattle.zot_model.specs.declared.reply.Reply.{Reply}
 use Rattle.zot_model.proofs.HistoryLemmas.{same_alike}
 use Rattle.zot_model.specs.Alone.{StandAlone, row_with, without_faults}
-use Rattle.zot_model.specs.History.{Entry, Event, Happens, Run, Step, asked, failed, is_named, is_of, lacked, name_of, named, retired, scrubbed, swept, swept_all}
+use Rattle.zot_model.specs.History.{Entry, Event, Happens, Run, Step, asked, failed, is_named, is_of, lacked, mounted, name_of, named, retired, scrubbed, swept, swept_all}
 use Rattle.zot_model.specs.Plain.{Goes, MayAnswer, Rise, Stay}
 use Rattle.zot_model.specs.State.{AreSame, RepoState, RowState, fresh, repo_at}
 
@@ -73,11 +73,17 @@ module _ (name : List ℕ) where
       let same = (bytes_eq-Decides name other).0 is in
       subst (λ n. Alone (λ r s. Goes Stay Way r n s) faults old new) same (stays_alone Way faults old new (subst (λ n. Goes Stay Way old n new) (sym same) h))
 
+  own_some_way : (Way : RepoState → RepoState → Type 0) (faults : ℕ) (old new : RowState) (named : Option (List ℕ)) → is_named name named ≡ true → IsSomeAnd named (λ n. Goes Stay Way old n new)
+      → Alone (λ r s. IsSomeAnd named (λ n. Goes Stay Way r n s)) faults old new
+  own_some_way Way faults old new None is h = absurd h
+  own_some_way Way faults old new (Some other) is h = own_way Way faults old new other is h
+
   same_alone : (faults : ℕ) (row other : RowState) → repo_at other name ≡ repo_at row name → AreSame (row_with name (repo_at row name) faults) (row_with name (repo_at other name) faults)
   same_alone faults row other h = record { repos = λ n. ap (λ (r : RepoState). repo_at (row_with name r faults) n) h; faults = refl }
 
   own_event : (moment faults : ℕ) (old new : RowState) (event : Event) → is_named name (name_of event) ≡ true → Happens old moment event new → Alone (λ r s. Happens r moment event s) faults old new
   own_event moment faults old new (asked request reply) is h = own_named moment faults old new request.name request.call reply is h
+  own_event moment faults old new (mounted request reply bytes) is h = own_some_way _ faults old new request.name is h
   own_event moment faults old new (retired other rules delay gone) is h = own_way _ faults old new other is h
   own_event moment faults old new (swept other delay digest) is h = own_way _ faults old new other is h
   own_event moment faults old new (swept_all other delay) is h = own_way _ faults old new other is h
@@ -104,8 +110,13 @@ module _ (name : List ℕ) where
   other_way : (Way : RepoState → RepoState → Type 0) (old new : RowState) (other : List ℕ) → bytes_eq name other ≡ false → Goes Stay Way old other new → repo_at new name ≡ repo_at old name
   other_way Way old new other is h = h.becomes.others name (not_named (bytes_eq name other) other refl is)
 
+  other_some_way : (Way : RepoState → RepoState → Type 0) (old new : RowState) (named : Option (List ℕ)) → is_named name named ≡ false → IsSomeAnd named (λ n. Goes Stay Way old n new) → repo_at new name ≡ repo_at old name
+  other_some_way Way old new None is h = absurd h
+  other_some_way Way old new (Some other) is h = other_way Way old new other is h
+
   other_event : (moment : ℕ) (old new : RowState) (event : Event) → is_named name (name_of event) ≡ false → Happens old moment event new → repo_at new name ≡ repo_at old name
   other_event moment old new (asked request reply) is h = other_named moment old new request.name request.call reply is h
+  other_event moment old new (mounted request reply bytes) is h = other_some_way _ old new request.name is h
   other_event moment old new (retired other rules delay gone) is h = other_way _ old new other is h
   other_event moment old new (swept other delay digest) is h = other_way _ old new other is h
   other_event moment old new (swept_all other delay) is h = other_way _ old new other is h

@@ -7,7 +7,7 @@ use Rattle.zot_model.specs.declared.call.Call.{Call}
 use Rattle.zot_model.specs.declared.reply.Reply.{Reply}
 use Rattle.zot_model.specs.Collections.{AreKnown}
 use Rattle.zot_model.specs.Refusals.{storage_fault}
-use Rattle.zot_model.specs.History.{Entry, Event, Happens, Run, SaysFault, Step, asked, failed, lacked, named, retired, scrubbed, swept, swept_all}
+use Rattle.zot_model.specs.History.{Entry, Event, Happens, Run, SaysFault, Step, asked, failed, lacked, mounted, named, retired, scrubbed, swept, swept_all}
 use Rattle.zot_model.specs.Plain.{Goes, MayAnswer, Rise, Stay}
 use Rattle.zot_model.specs.State.{AreSame, RepoState, RowState}
 
@@ -36,6 +36,10 @@ named_from : (moment : ℕ) (row old new : RowState) (name : Option (List ℕ)) 
 named_from moment row old new None call reply h k = absurd k
 named_from moment row old new (Some name) call reply h k = answer_from moment row old new name call reply h k
 
+some_from : (Way : RepoState → RepoState → Type 0) (row old new : RowState) (name : Option (List ℕ)) → AreSame row old → IsSomeAnd name (λ n. Goes Stay Way old n new) → IsSomeAnd name (λ n. Goes Stay Way row n new)
+some_from Way row old new None h k = absurd k
+some_from Way row old new (Some name) h k = goes_from Stay Way row old name new h k
+
 known_from : (row old : RowState) (names : List (List ℕ)) → AreSame row old → AreKnown old names → AreKnown row names
 known_from row old names h k = record {
   ordered = k.ordered;
@@ -44,6 +48,7 @@ known_from row old names h k = record {
 
 happens_from : (moment : ℕ) (row old new : RowState) (event : Event) → AreSame row old → Happens old moment event new → Happens row moment event new
 happens_from moment row old new (asked request reply) h k = named_from moment row old new request.name request.call reply h k
+happens_from moment row old new (mounted request reply bytes) h k = some_from _ row old new request.name h k
 happens_from moment row old new (retired name rules delay gone) h k = goes_from Stay _ row old name new h k
 happens_from moment row old new (swept name delay digest) h k = goes_from Stay _ row old name new h k
 happens_from moment row old new (swept_all name delay) h k = goes_from Stay _ row old name new h k
@@ -75,8 +80,13 @@ answer_later moment old new (Some name) call reply (inl h) = later_stays old.fau
 answer_later moment old new (Some name) call reply (inr (inl h)) = later_stays old.faults new.faults h.faults
 answer_later moment old new (Some name) call reply (inr (inr h)) = h.faults.later
 
+some_stays : (Way : RepoState → RepoState → Type 0) (old new : RowState) (name : Option (List ℕ)) → IsSomeAnd name (λ n. Goes Stay Way old n new) → new.faults ≡ old.faults
+some_stays Way old new None h = absurd h
+some_stays Way old new (Some name) h = h.faults
+
 event_later : (moment : ℕ) (old new : RowState) (event : Event) → Happens old moment event new → old.faults ≤ new.faults
 event_later moment old new (asked request reply) h = answer_later moment old new request.name request.call reply h
+event_later moment old new (mounted request reply bytes) h = later_stays old.faults new.faults (some_stays _ old new request.name h)
 event_later moment old new (retired name rules delay gone) h = later_stays old.faults new.faults h.faults
 event_later moment old new (swept name delay digest) h = later_stays old.faults new.faults h.faults
 event_later moment old new (swept_all name delay) h = later_stays old.faults new.faults h.faults
@@ -104,6 +114,7 @@ answer_counts moment old new (Some name) call reply (inr (inr h)) none = absurd 
 
 event_counts : (moment : ℕ) (old new : RowState) (event : Event) → Happens old moment event new → ¬ SaysFault event → new.faults ≡ old.faults
 event_counts moment old new (asked request reply) h none = answer_counts moment old new request.name request.call reply h none
+event_counts moment old new (mounted request reply bytes) h none = some_stays _ old new request.name h
 event_counts moment old new (retired name rules delay gone) h none = h.faults
 event_counts moment old new (swept name delay digest) h none = h.faults
 event_counts moment old new (swept_all name delay) h none = h.faults

@@ -27,9 +27,10 @@ use Rattle.zot_model.specs.declared.span.Span.{Span}
 use Rattle.zot_model.specs.Among.{IsAmong}
 use Rattle.zot_model.specs.Ages.{is_aged}
 use Rattle.zot_model.specs.Collections.{Gone, Retires, Rules, Sweeps, manifest_row, manifest_rows}
-use Rattle.zot_model.specs.History.{Entry, Event, Happens, Step, asked, failed, lacked, named, retired, scrubbed, swept, swept_all}
+use Rattle.zot_model.specs.History.{Entry, Event, Happens, Step, asked, failed, lacked, mounted, named, retired, scrubbed, swept, swept_all}
 use Rattle.zot_model.specs.Kept.{IsNeededBy, KeepsNeeded}
 use Rattle.zot_model.specs.Manifests.{Found, first_missing, is_needed, is_referred, manifest_of, reading_at}
+use Rattle.zot_model.specs.Mounts.{TakesOver}
 use Rattle.zot_model.specs.Outcomes.{Outcome, with_blob}
 use Rattle.zot_model.specs.Pieces.{goes_on, keeps_limit}
 use Rattle.zot_model.specs.Plain.{Goes, MayAnswer, Rise, Stay, bodies_left, leavings, plain}
@@ -271,8 +272,17 @@ on_one : (Way : RepoState → RepoState → Type 0) (old : RowState) (name : Lis
     → KeepsNeeded (repo_at old other) (repo_at new other)
 on_one Way old name new h keeps other = goes_keeps Stay Way old name new h (keeps (repo_at old name)) other (bytes_eq other name) refl
 
+mount_keeps : (moment : ℕ) (call : Call) (bytes : List ℕ) (reply : Reply) (repo new : RepoState) → TakesOver moment call bytes reply repo new → KeepsNeeded repo new
+mount_keeps moment call bytes reply repo new h = subst (λ (r : RepoState). KeepsNeeded repo r) (sym h.repo_is) (blob_keeps moment repo h.digest bytes)
+
+on_some : (Way : RepoState → RepoState → Type 0) (old : RowState) (name : Option (List ℕ)) (new : RowState) → IsSomeAnd name (λ n. Goes Stay Way old n new) → ((repo after : RepoState) → Way repo after → KeepsNeeded repo after)
+    → (other : List ℕ) → KeepsNeeded (repo_at old other) (repo_at new other)
+on_some Way old None new h keeps other = absurd h
+on_some Way old (Some name) new h keeps other = on_one Way old name new h keeps other
+
 event_keeps : (moment : ℕ) (old new : RowState) (event : Event) → Happens old moment event new → (other : List ℕ) → KeepsNeeded (repo_at old other) (repo_at new other)
 event_keeps moment old new (asked request reply) h other = named_keeps moment old new request.name request.call reply h other
+event_keeps moment old new (mounted request reply bytes) h other = on_some _ old request.name new h (mount_keeps moment request.call bytes reply) other
 event_keeps moment old new (retired name rules delay gone) h other = on_one _ old name new h (retire_keeps moment rules delay gone) other
 event_keeps moment old new (swept name delay digest) h other = on_one _ old name new h (sweep_keeps moment delay digest) other
 event_keeps moment old new (swept_all name delay) h other = on_one _ old name new h (λ repo after way. same_keeps repo after way.stays) other

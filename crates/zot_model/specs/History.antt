@@ -9,6 +9,7 @@ use Rattle.zot_model.specs.declared.row.RowCall.TheVariants.{Ask}
 use Rattle.zot_model.specs.declared.row.RowReply.{RowReply}
 use Rattle.zot_model.specs.declared.row.RowReply.TheVariants as answers
 use Rattle.zot_model.specs.Collections.{AreKnown, Finds, Gone, IsSwept, Retires, Rules, Sweeps}
+use Rattle.zot_model.specs.Mounts.{TakesOver}
 use Rattle.zot_model.specs.Plain.{Goes, MayAnswer, Rise, Stay}
 use Rattle.zot_model.specs.declared.finding.Finding.{Finding}
 use Rattle.zot_model.specs.Refusals.{storage_fault}
@@ -27,6 +28,7 @@ pub data Task : Type 0 where
 
 -- what happened in a row:
 -- a request was asked, and answered so;
+-- a request was asked, and answered so by taking over these bytes from another repository;
 -- a collection retired this from the repository of a name, under its rules and with a delay;
 -- a collection removed a blob from it, of a digest, or found no blob left to remove;
 -- a scrub looked at so many blobs of it and found this;
@@ -34,6 +36,7 @@ pub data Task : Type 0 where
 -- memory ran out, or the storage failed, while something else than a request was done
 pub data Event : Type 0 where
   asked : Request → Reply → Event
+  mounted : Request → Reply → List ℕ → Event
   retired : List ℕ → Option Rules → ℕ → Gone → Event
   swept : List ℕ → ℕ → List ℕ → Event
   swept_all : List ℕ → ℕ → Event
@@ -64,6 +67,7 @@ pub record Fails (task : Task) (old new : RowState) : Type 0 where
 -- what happened may have happened so at the moment, and leads from the old row to the new one
 abbrev pub Happens : RowState → ℕ → Event → RowState → Type 0
 Happens old moment (asked request reply) new = IsSomeAnd request.name (λ name. MayAnswer moment old name request.call reply new)
+Happens old moment (mounted request reply bytes) new = IsSomeAnd request.name (λ name. Goes Stay (TakesOver moment request.call bytes reply) old name new)
 Happens old moment (retired name rules delay gone) new = Goes Stay (Retires moment rules delay gone) old name new
 Happens old moment (swept name delay digest) new = Goes Stay (Sweeps moment delay digest) old name new
 Happens old moment (swept_all name delay) new = Goes Stay (IsSwept moment delay) old name new
@@ -84,6 +88,7 @@ Run old entries new = RunTo AreSame Step old entries new
 -- it says that the storage failed
 abbrev pub SaysFault : Event → Type 0
 SaysFault (asked request reply) = reply ≡ storage_fault
+SaysFault (mounted request reply bytes) = ⊥
 SaysFault (retired name rules delay gone) = ⊥
 SaysFault (swept name delay digest) = ⊥
 SaysFault (swept_all name delay) = ⊥
@@ -97,6 +102,10 @@ SaysFault (failed task) = ⊤
 -- the entry of a request and its reply
 abbrev pub entry_of : Request → Reply → ℕ → ℕ → Entry
 entry_of request reply moment faults = record { event = asked request reply; moment = moment; faults = faults }
+
+-- the entry of a request that took over these bytes, and its reply
+abbrev pub mount_entry : Request → Reply → List ℕ → ℕ → ℕ → Entry
+mount_entry request reply bytes moment faults = record { event = mounted request reply bytes; moment = moment; faults = faults }
 
 -- the entries stand for a call at a moment and its answer: one of a request and its reply
 abbrev pub StandFor : RowCall → ℕ → RowReply → List Entry → Type 0
@@ -125,6 +134,7 @@ task_name names = None
 -- the name of the repository on which it happened
 abbrev pub name_of : Event → Option (List ℕ)
 name_of (asked request reply) = request.name
+name_of (mounted request reply bytes) = request.name
 name_of (retired name rules delay gone) = Some name
 name_of (swept name delay digest) = Some name
 name_of (swept_all name delay) = Some name

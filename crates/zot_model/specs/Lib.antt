@@ -9,6 +9,7 @@ pub mod Fits
 pub mod History
 pub mod Kept
 pub mod Manifests
+pub mod Mounts
 pub mod Outcomes
 pub mod Pages
 pub mod Pieces

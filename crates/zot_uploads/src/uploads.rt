@@ -2,7 +2,7 @@
 ghost use Rattle.std.specs.Prelude.{◌≡◌, ◌≢◌, true, false, ◌+◌, ◌++◌, length, None, IfOk, IfErr, OnOk, OnErr, option_map};
 ghost use Rattle.std.specs.FinMap as map;
 ghost use Rattle.zot_uploads.specs.Cases.{HasRoom, IsTaken, IsWhole, Refuses, RefusesNew, RefusesWhole};
-ghost use Rattle.zot_model.specs.Uploads.{Expires, bytes_of, no_uploads, with_new, with_piece, without};
+ghost use Rattle.zot_model.specs.Uploads.{Expires, bytes_of, is_full, no_uploads, with_new, with_piece, without};
 
 use crate::upload::Upload;
 use crate::upload_error::UploadError;
@@ -49,6 +49,14 @@ impl Uploads {
         ensures other { result ≡ false → self.now ≢ no_uploads }
     {
         self.opened == 0 && self.uploads.len() == 0
+    }
+
+    /// Whether no upload more may be opened: 1,000 are open, or the last id was given.
+    #[tactic(auto, unfolding(zot_model::specs::Uploads::open_limit, zot_model::specs::Uploads::last_id))]
+    pub fn is_full(&self) -> bool
+        ensures { result ≡ is_full self.now }
+    {
+        self.uploads.len() >= OPEN_LIMIT || self.opened >= LAST_ID
     }
 
     /// Opens an upload with no bytes at the moment, in seconds. Its id is the number of uploads opened, this one counted. `Full` comes exactly where 1,000 are open or the last id was given, `NoMemory` only where memory runs out. After an `Err` the table is as it was.

@@ -1,0 +1,5 @@
+pub mod Turns
+pub mod Refusals
+pub mod Stages
+pub mod Doing
+pub mod Going

@@ -1,0 +1,5 @@
+pub mod Tables
+pub mod Changes
+pub mod Standing
+pub mod Keeping
+pub mod Leaving
