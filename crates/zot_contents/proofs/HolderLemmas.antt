@@ -15,9 +15,10 @@ use Rattle.zot_history.proofs.Runs.{run_from}
 use Rattle.zot_links.proofs.StandLemmas.{eq_false, eq_true}
 use Rattle.zot_links.specs.Changes.{with_held}
 use Rattle.zot_contents.specs.Holders.{Covers, GivesOwn, History, IsOwner, IsRefused, KeepsOtherShards, Moves, MovesOwn, PoolEntry, after_all, after_call, after_entry, carried_by, digest_in, if_taken, is_own, name_in, own_entries, under, unless_refused}
-use Rattle.zot_contents.specs.Holdings.{Lists}
+use Rattle.zot_contents.specs.Holdings.{AreAllHeld, Lists}
 use Rattle.zot_contents.specs.Pool.{AreSame, Gives, Holders, IsPlain, MayAnswer, content_of, if_sound, mount_of, plain_attach, plain_detach, plain_mount, plain_read, with_bytes}
 use Rattle.zot_contents.specs.Shards.{IsCallOf, IsOfShard, shard_of}
+use Rattle.zot_contents.specs.declared.holding.Holding.{Holding}
 use Rattle.zot_contents.specs.declared.pool_call.PoolCall.{PoolCall}
 use Rattle.zot_contents.specs.declared.pool_call.PoolCall.TheVariants as calls
 use Rattle.zot_contents.specs.declared.pool_reply.PoolReply.{PoolReply}
@@ -88,18 +89,17 @@ sound_bytes digest (Some other) bytes is =
     ] refl is
 
 -- what is listed of a shard is listed of all
+pub listed_of_all : (number : ℕ) (shard all : Holders) → Covers number shard all → (holdings : List Holding) → AreAllHeld number shard holdings → AreAllHeld number all holdings
+listed_of_all number shard all covers holdings listing = record {
+  listed = λ holding has.
+      let held = listing.listed holding has in
+      record { digest = held.digest; bytes = held.bytes; holds = ap (λ h. h holding.name) (covers holding.digest held.digest) ∙ held.holds; size = held.size };
+  all = λ digest name own named some. listing.all digest name own named (subst (λ (held : List ℕ → Held). IsSome (held name)) (covers digest own) some);
+  ordered = listing.ordered;
+}
+
 held_of_all : (number : ℕ) (shard all : Holders) → Covers number shard all → (reply : PoolReply) → Lists number shard reply → Lists number all reply
-held_of_all number shard all covers reply (holdings, is, listing) = (
-  holdings,
-  is,
-  record {
-    listed = λ holding has.
-        let held = listing.listed holding has in
-        record { digest = held.digest; bytes = held.bytes; holds = ap (λ h. h holding.name) (covers holding.digest held.digest) ∙ held.holds; size = held.size };
-    all = λ digest name own named some. listing.all digest name own named (subst (λ (held : List ℕ → Held). IsSome (held name)) (covers digest own) some);
-    ordered = listing.ordered;
-  },
-)
+held_of_all number shard all covers reply (holdings, is, listing) = (holdings, is, listed_of_all number shard all covers holdings listing)
 
 module _ (number : ℕ) (shard later all after : Holders) (before : Covers number shard all) (covers : Covers number later after) (others : KeepsOtherShards number all after) where
   -- a place that stays in the shard, or one that changes in it

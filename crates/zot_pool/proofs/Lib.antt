@@ -1,3 +1,4 @@
 pub mod UpstreamLemmas
+pub mod ListLemmas
 pub mod PoolLemmas
 pub mod OpeningLemmas

@@ -1,7 +1,8 @@
 -- What a call on one shard is for the pool.
 use Rattle.std.proofs.Common.{◌≡◌, ℕ, zero, suc, ◌+◌, ◌-◌, ◌^◌, ◌≤◌, ◌<◌, min, arith, lit<, Bool, true, false, cond, ◌&&◌, List, [], ◌∷◌, map, length, get_or, set, Option, Some, None, IfSome, IfOk, OnErr, OnOk, is_some, refl, sym, ap, subst, ◌∙◌}
 use Rattle.std.specs.Prelude.{Result, Ok, Err, sum, slice_index}
-use Rattle.std.specs.List.{list_all, slice_get, sum_by}
+use Rattle.std.specs.List.{All, list_all, slice_get, sum_by}
+use Rattle.std.specs.List.Sorted.{IsStrictlySortedBy}
 use Rattle.std.specs.Option.{option_flatten}
 use Rattle.std.specs.Result.{result_err}
 use Rattle.std.proofs.Math.Nat.{mod-lt}
@@ -13,6 +14,7 @@ use Rattle.std.proofs.lemmas.List.Folds.{list_all_at}
 use Rattle.std.proofs.lemmas.List.FromFn.{get_or-range_with_len, length-range_with_len}
 use Rattle.std.proofs.lemmas.List.Sums.{get_or-le-sum_by, sum-map, sum_by-set}
 use Rattle.std.proofs.lemmas.Option.{slice_get-get_or}
+use Rattle.zot_digest.specs.ByteMap.{byte_cmp}
 use Rattle.zot_outside.specs.Faults.{HasStoreCause, OnMissing, Rose}
 use Rattle.zot_outside.specs.Objects.{Objects}
 use Rattle.zot_outside.specs.declared.stores.store.Store.{Ghosts}
@@ -20,12 +22,22 @@ use Rattle.zot_outside.specs.declared.stores.store_error.StoreError.{StoreError}
 use Rattle.zot_outside.specs.declared.stores.store_error.StoreError.TheVariants as stores
 use Rattle.zot_links.specs.Changes.{HasCallsCause, Told}
 use Rattle.zot_links.specs.Meaning.{held}
+use Rattle.zot_contents.proofs.HolderLemmas.{answer_of_all, listed_of_all}
 use Rattle.zot_contents.specs.Holders.{Covers, KeepsOtherShards}
-use Rattle.zot_contents.specs.Pool.{Holders}
-use Rattle.zot_contents.specs.Shards.{AreTight, IsOfShard, KeepsTight, shard_of, shards}
+use Rattle.zot_contents.specs.Answers.{HasReplyCause, OnLook}
+use Rattle.zot_contents.specs.Holdings.{AreAllHeld, key_of}
+use Rattle.zot_contents.specs.Listing.{place_of, places_of}
+use Rattle.zot_contents.specs.Pool.{Holders, MayAnswer}
+use Rattle.zot_contents.specs.Shards.{AreTight, IsCallOf, IsOfShard, KeepsTight, shard_of, shards}
+use Rattle.zot_contents.specs.declared.holding.Holding.{Holding}
+use Rattle.zot_contents.specs.declared.pool_call.PoolCall.{PoolCall}
+use Rattle.zot_contents.specs.declared.pool_call.PoolCall.TheVariants as calls
+use Rattle.zot_contents.specs.declared.pool_reply.PoolReply.{PoolReply}
+use Rattle.zot_contents.specs.declared.pool_reply.PoolReply.TheVariants as replies
 use Rattle.zot_contents.specs.declared.shard.DigestShard.{DigestShard}
 use Rattle.zot_pool.specs.Answers.{pooled}
-use Rattle.zot_pool.specs.Pools.{AreDeduped, AreNumbered, AreTightPool, BothHold, ChangesOnly, HasPoolCause, HasReadCause, RoseAt, faults_of, held_of, held_in, holds, objects_of}
+use Rattle.zot_pool.specs.Pools.{AreDeduped, AreNumbered, AreTightPool, BothHold, ChangesOnly, HasPoolCause, HasReadCause, RoseAt, faults_of, held_of, held_in, holds, objects_of, refusal}
+use Rattle.zot_pool.proofs.ListLemmas.{listed_ordered, listed_own}
 use Rattle.zot_pool.specs.declared.pool_error.PoolError.{PoolError}
 
 -- ---- lists
@@ -100,13 +112,13 @@ where_told : (all : Bool) (holders : Holders) (P : Holders → Type 0) → (all 
 where_told true holders P h = h refl
 where_told false holders P h = tt
 
-read_told : (parts : List (Option Objects)) (i : ℕ) → i < length parts → (digest name : List ℕ) (found : Option (List ℕ)) → IsOfShard i digest
-    → (here : Option Objects) → here ≡ get_or parts i here → IfSome here (λ told. found ≡ held told digest name) → IfSome (holds parts) (λ holders. found ≡ holders digest name)
-read_told parts i within digest name found own None is told =
-    where_told (list_all is_some parts) (held_in parts) (λ holders. found ≡ holders digest name) (λ all. absurd (true≢false (sym all ∙ list_all_at is_some parts i None within (ap is_some (sym is)))))
-read_told parts i within digest name found own (Some old) is told =
-    where_told (list_all is_some parts) (held_in parts) (λ holders. found ≡ holders digest name)
-    (λ _. told ∙ ap (λ h. h name) (sym (part_covers parts i old (slice_get-get_or parts i (Some old) within ∙ ap Some (sym is)) digest own)))
+-- what is told of one part is told of the pool
+told_where : (parts : List (Option Objects)) (i : ℕ) → i < length parts → (P : Holders → Type 0) (Q : Objects → Type 0) → ((old : Objects) → Covers i (held old) (held_in parts) → Q old → P (held_in parts))
+    → (here : Option Objects) → here ≡ get_or parts i here → IfSome here Q → IfSome (holds parts) P
+told_where parts i within P Q so None is told =
+    where_told (list_all is_some parts) (held_in parts) P (λ all. absurd (true≢false (sym all ∙ list_all_at is_some parts i None within (ap is_some (sym is)))))
+told_where parts i within P Q so (Some old) is told =
+    where_told (list_all is_some parts) (held_in parts) P (λ _. so old (part_covers parts i old (slice_get-get_or parts i (Some old) within ∙ ap Some (sym is))) told)
 
 -- ---- counts
 
@@ -115,10 +127,12 @@ rose_all a b s t m part later sums rose = omega arith
 
 -- ---- a call on one shard
 
+pub number_within : {S : Type 0} {G : Ghosts S} (xs : List (DigestShard S G)) (i : ℕ) → AreNumbered xs → i < shards → i < length xs
+number_within xs i numbered below = subst (λ n. i < n) (sym (sym (length-map xs (λ s. s.number)) ∙ ap length numbered ∙ length-range_with_len 0 shards)) below
+
 -- the shard of a digest is one of them
 pub of_shard_within : {S : Type 0} {G : Ghosts S} (xs : List (DigestShard S G)) (i : ℕ) (digest : List ℕ) → AreNumbered xs → IsOfShard i digest → i < length xs
-of_shard_within xs i digest numbered own =
-    subst (λ n. i < n) (sym (sym (length-map xs (λ s. s.number)) ∙ ap length numbered ∙ length-range_with_len 0 shards)) (subst (λ n. n < shards) own.1 (mod-lt (slice_index digest 0) {m = shards} (lit< tt)))
+of_shard_within xs i digest numbered own = number_within xs i numbered (subst (λ n. n < shards) own.1 (mod-lt (slice_index digest 0) {m = shards} (lit< tt)))
 
 module _ {S : Type 0} {G : Ghosts S} (xs : List (DigestShard S G)) (i : ℕ) (x y : DigestShard S G) (within : i < length xs) (is : x ≡ get_or xs i x) where
   abbrev objects : DigestShard S G → Option Objects
@@ -153,10 +167,10 @@ module _ {S : Type 0} {G : Ghosts S} (xs : List (DigestShard S G)) (i : ℕ) (x 
   pub faults_kept : faults y ≡ faults x → faults_of (set xs i y) ≡ faults_of xs
   faults_kept same = map-set_same faults xs i y x (same ∙ ap faults is)
 
-  at_old : slice_index (faults_of xs) i ≡ faults x
+  pub at_old : slice_index (faults_of xs) i ≡ faults x
   at_old = get_or-map faults xs i x 0 within ∙ ap faults (sym is)
 
-  at_new : slice_index (faults_of (set xs i y)) i ≡ faults y
+  pub at_new : slice_index (faults_of (set xs i y)) i ≡ faults y
   at_new = get_or-map faults (set xs i y) i x 0 (subst (λ n. i < n) (sym (length-set xs i y)) within) ∙ ap faults (get_or-set_same xs i y x within)
 
   sums : sum (faults_of (set xs i y)) + faults x ≡ sum (faults_of xs) + faults y
@@ -223,10 +237,21 @@ module _ {S : Type 0} {G : Ghosts S} (xs : List (DigestShard S G)) (i : ℕ) (x 
 
   -- ---- a call that reads
 
+  pub told_there : (P : Holders → Type 0) (Q : Objects → Type 0) → ((old : Objects) (holders : Holders) → Covers i (held old) holders → Q old → P holders) → IfSome (objects x) Q → IfSome (holds (objects_of xs)) P
+  told_there P Q so told =
+      told_where (map objects xs) i (subst (λ n. i < n) (sym (length-map xs objects)) within) P Q (λ old covers q. so old (held_in (map objects xs)) covers q) (objects x)
+      (ap objects is ∙ sym (get_or-map objects xs i x (objects x) within)) told
+
   -- what is read of the part is what the pool holds
   pub read_held : (digest name : List ℕ) (found : Option (List ℕ)) → IsOfShard i digest → IfSome (objects x) (λ told. found ≡ held told digest name) → IfSome (holds (objects_of xs)) (λ holders. found ≡ holders digest name)
   read_held digest name found own told =
-      read_told (map objects xs) i (subst (λ n. i < n) (sym (length-map xs objects)) within) digest name found own (objects x) (ap objects is ∙ sym (get_or-map objects xs i x (objects x) within)) told
+      told_there (λ holders. found ≡ holders digest name) (λ told. found ≡ held told digest name) (λ old holders covers q. q ∙ ap (λ h. h name) (sym (covers digest own))) told
+
+  -- what is listed of it, the pool holds
+  pub list_held : (list : List Holding) → AreNumbered xs → IfSome (objects x) (λ told. AreAllHeld x.number (held told) list) → IfSome (holds (objects_of xs)) (λ holders. AreAllHeld i holders list)
+  list_held list numbered told =
+      told_there (λ holders. AreAllHeld i holders list) (λ told. AreAllHeld i (held told) list) (λ old holders covers all. listed_of_all i (held old) holders covers list all)
+      (subst (λ n. IfSome (objects x) (λ told. AreAllHeld n (held told) list)) (number_is numbered) told)
 
   pub read_tight : objects y ≡ objects x → y.digests ≡ x.digests → y.number ≡ x.number → AreTightPool xs → AreTightPool (set xs i y)
   read_tight kept digests number tight =
@@ -236,3 +261,42 @@ module _ {S : Type 0} {G : Ghosts S} (xs : List (DigestShard S G)) (i : ℕ) (x 
       (subst (λ d. IfSome (objects x) (λ told. AreTight told x.number d)) (sym digests)
       (subst (λ s. IfSome (objects s) (λ told. AreTight told s.number s.digests)) (sym is) (All-get_or (λ s. IfSome (objects s) (λ told. AreTight told s.number s.digests)) xs i x within tight)))))
       tight
+
+  -- ---- any call
+
+  pub step_answer : (call : PoolCall) (reply : PoolReply) → AreNumbered xs → IsCallOf i call
+      → Told (objects x) (objects y) (λ old new. MayAnswer x.number (record { held = held old; faults = faults x }) call reply (record { held = held new; faults = faults y }))
+      → BothHold (holds (objects_of xs)) (holds (objects_of (set xs i y))) (λ old new. MayAnswer i (record { held = old; faults = slice_index (faults_of xs) i }) call reply (record { held = new; faults = slice_index (faults_of (set xs i y)) i }))
+  step_answer call reply numbered own told =
+      both_hold (λ old new. MayAnswer i (record { held = old; faults = slice_index (faults_of xs) i }) call reply (record { held = new; faults = slice_index (faults_of (set xs i y)) i }))
+      (λ old new. MayAnswer x.number (record { held = held old; faults = faults x }) call reply (record { held = held new; faults = faults y })) told
+      (λ old new before after covers then_covers others answer.
+      subst (λ m. MayAnswer i (record { held = before; faults = m }) call reply (record { held = after; faults = slice_index (faults_of (set xs i y)) i })) (sym at_old)
+      (subst (λ m. MayAnswer i (record { held = before; faults = faults x }) call reply (record { held = after; faults = m })) (sym at_new)
+      (answer_of_all i (held old) (held new) before after (faults x) (faults y) call reply covers then_covers others own
+      (subst (λ n. MayAnswer n (record { held = held old; faults = faults x }) call reply (record { held = held new; faults = faults y })) (number_is numbered) answer))))
+
+  pub step_cause : (reply : PoolReply) → HasReplyCause (faults x) (faults y) reply → HasPoolCause i (faults_of xs) (faults_of (set xs i y)) (refusal reply)
+  step_cause replies.Failed cause = record { later = here_later cause.later; whole = all_later cause.later; failed = rose_at cause.later cause.failed; quiet = tt }
+  step_cause replies.NoMemory cause = record { later = here_later cause.later; whole = all_later cause.later; failed = tt; quiet = faults_kept cause.quiet }
+  step_cause replies.Done cause = record { later = here_later cause.later; whole = all_later cause.later; failed = tt; quiet = tt }
+  step_cause (replies.Held holdings) cause = record { later = here_later cause.later; whole = all_later cause.later; failed = tt; quiet = tt }
+  step_cause (replies.Size size) cause = record { later = here_later cause.later; whole = all_later cause.later; failed = tt; quiet = tt }
+  step_cause (replies.Content bytes) cause = record { later = here_later cause.later; whole = all_later cause.later; failed = tt; quiet = tt }
+  step_cause replies.Nothing cause = record { later = here_later cause.later; whole = all_later cause.later; failed = tt; quiet = tt }
+  step_cause (replies.Removed was) cause = record { later = here_later cause.later; whole = all_later cause.later; failed = tt; quiet = tt }
+
+  pub step_looks : (call : PoolCall) → OnLook call (objects y ≡ objects x) → OnLook call (objects_of (set xs i y) ≡ objects_of xs)
+  step_looks calls.Holdings same = objects_kept same
+  step_looks (calls.Attach name digest bytes) same = tt
+  step_looks (calls.Mount name from digest) same = tt
+  step_looks (calls.Read name digest) same = objects_kept same
+  step_looks (calls.Detach name digest) same = tt
+
+  -- ---- a list of what is held, also where nothing is told
+
+  pub list_own : (list : List Holding) → AreNumbered xs → map place_of list ≡ places_of x.digests → All (λ h. IsOfShard i h.digest) list
+  list_own list numbered is_list = subst (λ n. All (λ h. IsOfShard n h.digest) list) (number_is numbered) (listed_own x.number x.digests x.own list is_list)
+
+  pub list_ordered : (list : List Holding) → map place_of list ≡ places_of x.digests → IsStrictlySortedBy byte_cmp (map key_of list)
+  list_ordered list is_list = listed_ordered x.number x.digests list x.own is_list

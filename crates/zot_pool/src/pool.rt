@@ -1,15 +1,21 @@
 //! All shards of digests under one value.
-ghost use Rattle.std.specs.Prelude.{◌≡◌, IfOk, IfSome, OnErr, OnOk, option_map};
+ghost use Rattle.std.specs.Prelude.{◌≡◌, ◌<◌, IfOk, IfSome, IsSome, OnErr, OnOk, map as each, option_map, slice_index};
+ghost use Rattle.std.specs.List.{All};
+ghost use Rattle.std.specs.List.Sorted.{IsStrictlySortedBy};
 ghost use Rattle.std.specs.Result.{result_err};
-ghost use Rattle.zot_contents.specs.Pool.{AreSame, Gives, plain_attach, plain_detach, plain_mount, size_of};
-ghost use Rattle.zot_contents.specs.Shards.{shard_of};
+ghost use Rattle.zot_digest.specs.ByteMap.{byte_cmp};
+ghost use Rattle.zot_contents.specs.Answers.{OnLook};
+ghost use Rattle.zot_contents.specs.Holders.{digest_in};
+ghost use Rattle.zot_contents.specs.Holdings.{AreAllHeld, key_of};
+ghost use Rattle.zot_contents.specs.Pool.{AreSame, Gives, MayAnswer, ShardState, plain_attach, plain_detach, plain_mount, size_of};
+ghost use Rattle.zot_contents.specs.Shards.{IsCallOf, IsOfShard, shard_of, shards};
 ghost use Rattle.zot_contents.specs.declared.pool_reply.PoolReply.TheVariants.{Done, Removed};
-ghost use Rattle.zot_pool.specs.Pools.{AreDeduped, AreNumbered, AreTightPool, BothHold, ChangesOnly, HasPoolCause, HasReadCause, HasRoom, faults_of, holds, objects_of};
+ghost use Rattle.zot_pool.specs.Pools.{AreDeduped, AreNumbered, AreTightPool, BothHold, ChangesOnly, HasPoolCause, HasReadCause, HasRoom, faults_of, holds, number_in, objects_of, refusal};
 
 use crate::answers::pooled;
 use crate::pool_error::PoolError;
 use std::alloc::Global;
-use zot_contents::{DigestShard, shard_of};
+use zot_contents::{DigestShard, Holding, PoolCall, PoolReply, shard_of};
 use zot_digest::Digest;
 use zot_names::RepoName;
 use zot_outside::Store;
@@ -100,5 +106,52 @@ impl<S: Store> Pool<S> {
     {
         let shard = &mut self.shards[shard_of(digest) as usize];
         pooled(shard.detach(alloc, name, digest))
+    }
+    /// What all repositories hold under the digests of the shard with this number, in the order of the digests and, under one, of the names. Every part keeps its objects.
+    pub fn holdings(&mut self, alloc: Global, number: u32) -> Result<Vec<Holding>, PoolError>
+        requires { number < shards }
+        ensures cause { HasReadCause number (faults_of self.old.shards.items) (faults_of self.new.shards.items) (result_err result) }
+        ensures kept { objects_of self.new.shards.items ≡ objects_of self.old.shards.items }
+        ensures ok { IfOk result (λ list. IfSome (holds (objects_of self.old.shards.items)) (λ held. AreAllHeld number held list.items)) }
+        ensures own { IfOk result (λ list. All (λ h. IsOfShard number h.digest) list.items) }
+        ensures ordered { IfOk result (λ list. IsStrictlySortedBy byte_cmp (each key_of list.items)) }
+        ensures beside { ChangesOnly number self.old.shards.items self.new.shards.items }
+        ensures tight { AreTightPool self.old.shards.items → AreTightPool self.new.shards.items }
+        ensures dedupe { AreDeduped self.old.shards.items → AreDeduped self.new.shards.items }
+    {
+        let shard = &mut self.shards[number as usize];
+        pooled(shard.holdings(alloc))
+    }
+
+    /// Any call on a digest, answered by its shard.
+    pub fn call(&mut self, alloc: Global, call: &PoolCall) -> PoolReply
+        requires { IsSome (digest_in call.now) }
+        ensures answer { BothHold (holds (objects_of self.old.shards.items)) (holds (objects_of self.new.shards.items)) (λ old new.
+            MayAnswer (number_in call.now) (record { held = old; faults = slice_index (faults_of self.old.shards.items) (number_in call.now) }) call.now result
+            (record { held = new; faults = slice_index (faults_of self.new.shards.items) (number_in call.now) })) }
+        ensures cause { HasPoolCause (number_in call.now) (faults_of self.old.shards.items) (faults_of self.new.shards.items) (refusal result) }
+        ensures looks { OnLook call.now (objects_of self.new.shards.items ≡ objects_of self.old.shards.items) }
+        ensures beside { ChangesOnly (number_in call.now) self.old.shards.items self.new.shards.items }
+        ensures tight { AreDeduped self.old.shards.items → AreTightPool self.old.shards.items → AreTightPool self.new.shards.items }
+        ensures dedupe { AreDeduped self.old.shards.items → AreDeduped self.new.shards.items }
+    {
+        let shard = &mut self.shards[shard_in(call) as usize];
+        shard.step(alloc, call)
+    }
+}
+
+// The shard of a call's digest.
+fn shard_in(call: &PoolCall) -> u32
+    requires { IsSome (digest_in call.now) }
+    ensures value { result ≡ number_in call.now }
+    ensures within { result < shards }
+    ensures call { IsCallOf result call.now }
+{
+    match call {
+        PoolCall::Attach(_, digest, _)
+        | PoolCall::Mount(_, _, digest)
+        | PoolCall::Read(_, digest)
+        | PoolCall::Detach(_, digest) => shard_of(digest),
+        PoolCall::Holdings => unreachable!(),
     }
 }
