@@ -20,8 +20,8 @@ use zot_layout::{
     a_layout_lies_at_two_paths, a_marker_makes_known, a_marker_tells_what_is_known,
     a_path_is_of_one_repository, a_write_is_of_one_repository, an_index_is_the_state,
     other_paths_leave_a_repository, the_later_write_counts, the_own_marker_is_read,
-    what_is_read_is_an_index, what_is_stored_elsewhere_leaves_it, what_is_written_is_the_rows,
-    what_is_not_stored_leaves_the_row, without_a_marker_it_is_fresh,
+    what_is_not_stored_leaves_the_row, what_is_read_is_an_index,
+    what_is_stored_elsewhere_leaves_it, what_is_written_is_the_rows, without_a_marker_it_is_fresh,
 };
 use zot_media::{annotations_ascend, only_texts_are_read, text_is_read};
 use zot_names::{bytes_of_names, bytes_of_tags, components_of_names};
