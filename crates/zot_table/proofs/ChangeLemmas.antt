@@ -1,5 +1,5 @@
 -- What the parts of a repository's table keep after each change.
-use Rattle.std.proofs.Common.{◌≡◌, ◌≢◌, ℕ, Bool, true, false, cond, List, Option, Some, None, is_some, refl, sym, ap, subst, ◌∙◌, unwrap_or}
+use Rattle.std.proofs.Common.{◌≡◌, ℕ, Bool, true, false, cond, List, Option, Some, None, is_some, refl, sym, ap, subst, ◌∙◌}
 use Rattle.std.specs.Prelude.{Result, Ok, Err, OnErr, OnOk}
 use Rattle.std.specs.Cmp.Lexicographic.{nat_list_cmp_total}
 use Rattle.std.specs.FinMap as finite
@@ -7,22 +7,20 @@ use Rattle.std.specs.FinMap.{get-insert}
 use Rattle.std.specs.Ordering.{eq_by_cmp}
 use Rattle.zot_digest.specs.ByteMap.{ByteMap, byte_cmp}
 use Rattle.zot_manifests.specs.Index.{Removes, Sets}
-use Rattle.zot_manifests.specs.Table.{Table, pulled, with_manifest, without_manifest, without_tag}
+use Rattle.zot_manifests.specs.Table.{Table, pulled, without_manifest, without_tag}
 use Rattle.zot_manifests.specs.declared.kept.Kept.{Kept}
 use Rattle.zot_maps.proofs.Maps.{byte_order, tied_keys}
 use Rattle.zot_media.specs.declared.reading.Reading.{Reading}
 use Rattle.zot_media.specs.declared.reference.Reference.{Reference}
 use Rattle.zot_media.specs.declared.reference.Reference.TheVariants as by
-use Rattle.zot_model.specs.Uploads.{UploadTable}
 use Rattle.zot_referrers.specs.Listing.{ListsSubjects, says_of}
 use Rattle.zot_repo.proofs.SubjectLemmas.{subjects_gone}
 use Rattle.zot_repo.specs.Repository.{read_again, rereads, rereads_found}
 use Rattle.zot_table.proofs.KeepingLemmas.{kept_slots, kept_tags, read_fewer, tagged_gone, tagged_pulled, tagged_untagged}
-use Rattle.zot_table.proofs.SlotLemmas.{filled_reserved, read_here, unread_read, unread_reserved}
+use Rattle.zot_table.proofs.SlotLemmas.{filled_reserved, unread_read, unread_reserved}
 use Rattle.zot_table.specs.Changes.{read_by, reserved, reserved_by, with_entry}
 use Rattle.zot_table.specs.Keeping.{IsKept, NoneUnread}
-use Rattle.zot_table.specs.Tables.{AreTagged, RepoTable, Slots, entry_at, is_unread}
-use Rattle.zot_table.specs.declared.blob_entry.BlobEntry.{BlobEntry}
+use Rattle.zot_table.specs.Tables.{AreTagged, RepoTable, Slots}
 
 module _ (slots : Slots) (table : Table) (sets : Sets (List ℕ)) (listed all_read : Bool) (kept : IsKept slots table sets listed all_read) where
   -- room was made, or memory ran out

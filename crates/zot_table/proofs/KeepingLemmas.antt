@@ -1,21 +1,19 @@
 -- The parts of a repository's table keep what they do.
 use Rattle.std.proofs.Common.{◌≡◌, ◌≢◌, ℕ, Bool, true, false, cond, not, List, Option, Some, None, is_some, refl, sym, ap, subst, ◌∙◌, unwrap_or}
-use Rattle.std.specs.Prelude.{◌&&◌}
 use Rattle.std.specs.Cmp.Lexicographic.{nat_list_cmp_total}
 use Rattle.std.specs.FinMap as finite
 use Rattle.std.specs.FinMap.{get-empty, get-insert, get-remove, get-retain_keys}
 use Rattle.std.specs.Ordering.{eq_by_cmp}
-use Rattle.std.specs.Str.{bytes_eq}
 use Rattle.std.proofs.lemmas.Bool.{true≢false}
 use Rattle.std.proofs.lemmas.Slice.Eq.{bytes_eq-Decides}
 use Rattle.zot_digest.specs.ByteMap.{ByteMap, byte_cmp}
 use Rattle.zot_manifests.specs.Index.{Sets}
 use Rattle.zot_manifests.specs.Table.{Table, empty_table, with_manifest, without_manifest, without_tag}
 use Rattle.zot_manifests.specs.declared.kept.Kept.{Kept}
-use Rattle.zot_maps.proofs.Maps.{byte_order, get_elsewhere, get_here, other_key, removed_elsewhere, same_key, tied_keys}
+use Rattle.zot_maps.proofs.Maps.{byte_order, get_here, removed_elsewhere, same_key}
 use Rattle.zot_media.specs.declared.media.Media.{Media}
 use Rattle.zot_media.specs.declared.reading.Reading.{Reading}
-use Rattle.zot_model.specs.Manifests.{is_tag_of, pulled_at, with_pull, with_tag, without_tags_of}
+use Rattle.zot_model.specs.Manifests.{is_tag_of, pulled_at, with_pull, without_tags_of}
 use Rattle.zot_model.specs.State.{StoredTag}
 use Rattle.zot_model.specs.Uploads.{UploadTable, no_uploads}
 use Rattle.zot_referrers.specs.Listing.{ListsSubjects}

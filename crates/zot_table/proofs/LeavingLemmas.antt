@@ -1,26 +1,23 @@
 -- What an index holds of a table, and the lists that are made of trees.
-use Rattle.std.proofs.Common.{◌≡◌, ◌≢◌, ℕ, append_assoc, Bool, true, false, cond, not, List, [], ◌∷◌, ◌++◌, length, map, Option, Some, None, is_some, refl, sym, ap, subst, ◌∙◌, unwrap_or, arith, if◌then◌else◌}
-use Rattle.std.specs.Prelude.{◌||◌, ◌&&◌, ◌^◌, ◌<◌, IsSome, T}
+use Rattle.std.proofs.Common.{◌≡◌, ℕ, append_assoc, Bool, true, false, cond, not, List, [], ◌∷◌, ◌++◌, length, map, Option, Some, None, is_some, refl, sym, ap, subst, ◌∙◌, arith, if◌then◌else◌}
+use Rattle.std.specs.Prelude.{◌||◌, IsSome}
 use Rattle.std.specs.Cmp.Lexicographic.{nat_list_cmp_total}
 use Rattle.std.specs.FinMap as finite
 use Rattle.std.specs.FinMap.{contains_key-keys, entries_sorted, get-entries, get-remove, get-retain_keys}
 use Rattle.std.specs.FinMap.Entries.{find, find-where_key, is_sorted-where_key, same_entries, where_key}
 use Rattle.std.specs.List.{AllByRecursion, filter, list_any}
 use Rattle.std.specs.List.Sorted.{IsStrictlySortedBy}
-use Rattle.std.specs.Map.{keys_of}
 use Rattle.std.specs.Ordering.{eq_by_cmp}
 use Rattle.std.specs.Str.{bytes_eq}
-use Rattle.std.proofs.lemmas.Bool.{true≢false}
 use Rattle.zot_digest.specs.ByteMap.{ByteMap, byte_cmp, map_of}
-use Rattle.zot_layout.specs.State.{IsIndex, IsManifest, IsTagOf, is_of}
+use Rattle.zot_layout.specs.State.{IsIndex, IsManifest, IsTagOf}
 use Rattle.zot_layout.specs.declared.index_manifest.IndexManifest.{IndexManifest}
 use Rattle.zot_layout.specs.declared.index_state.IndexState.{IndexState}
 use Rattle.zot_layout.specs.declared.index_tag.IndexTag.{IndexTag}
 use Rattle.zot_manifests.proofs.SetLemmas.{same_digest}
-use Rattle.zot_manifests.specs.Table.{Table}
 use Rattle.zot_manifests.specs.Tags.{AreTags}
 use Rattle.zot_manifests.specs.declared.kept.Kept.{Kept}
-use Rattle.zot_maps.proofs.Entries.{AllFound, all_found, entries_of_map, keys_ordered}
+use Rattle.zot_maps.proofs.Entries.{all_found, entries_of_map, keys_ordered}
 use Rattle.zot_maps.proofs.Maps.{byte_order, tied_keys}
 use Rattle.zot_media.specs.declared.reference.Reference.{Reference}
 use Rattle.zot_media.specs.declared.reference.Reference.TheVariants as by

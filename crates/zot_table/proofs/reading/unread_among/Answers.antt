@@ -1,4 +1,4 @@
-use Rattle.std.proofs.Common.{rules, ◌≡◌, ◌++◌, ◌∷◌, [], ℕ, List, map, subst, ap, sym, ◌∙◌}
+use Rattle.std.proofs.Common.{rules, ◌≡◌, ◌++◌, ◌∷◌, ℕ, List, map, subst}
 use Rattle.std.specs.List.{filter}
 use Rattle.zot_manifests.specs.declared.kept.Kept.{Kept}
 use Rattle.zot_table.proofs.LeavingLemmas.{listed_more}

@@ -1,9 +1,8 @@
-use Rattle.std.proofs.Common.{◌≡◌, List, ℕ, map, ap, sym, subst, ◌∙◌}
+use Rattle.std.proofs.Common.{List, ℕ, map, ap, sym, subst, ◌∙◌}
 use Rattle.std.specs.Prelude.{option_map}
 use Rattle.std.specs.List.{AllByRecursion, filter}
 use Rattle.zot_layout.specs.State.{IsManifest}
 use Rattle.zot_layout.specs.declared.index_manifest.IndexManifest.{IndexManifest}
-use Rattle.zot_layout.specs.declared.index_state.IndexState.{IndexState}
 use Rattle.zot_layout.specs.declared.index_tag.IndexTag.{IndexTag}
 use Rattle.zot_manifests.specs.declared.kept.Kept.{Kept}
 use Rattle.zot_model.specs.State.{StoredTag}

@@ -1,4 +1,4 @@
-use Rattle.std.proofs.Common.{◌≡◌, true, ℕ, List, [], arith, ap, sym, ◌∙◌}
+use Rattle.std.proofs.Common.{arith, ap, sym, ◌∙◌}
 use Rattle.std.proofs.lemmas.Bool.Decides.{nat_tests}
 use Rattle.zot_table.proofs.KeepingLemmas.{kept_slots}
 use Rattle.zot_table.proofs.LeavingLemmas.{all_were_read, empty_list, listed_left, none_left}
