@@ -1,4 +1,4 @@
-//! Cases of shards of digests, and of cache records.
+//! Cases of shards of digests, of pools, and of cache records.
 //!
 //! A case as `one-whole: record W a\n => a whole` makes the call `read_record`, and `record_text` has to give the text back.
 #![tactic(auto)]
@@ -10,6 +10,7 @@ mod noting_store;
 mod objects;
 mod plain_pool;
 mod pool;
+mod pools;
 mod random;
 mod records;
 mod scripts;
@@ -17,7 +18,10 @@ mod scripts;
 use std::io;
 use std::process::ExitCode;
 use zot_cases::{Answer, Case, run};
-use zot_contents::tight_means;
+use zot_contents::{
+    changes_are_local, holders_follow, own_entries_are_a_run, owner_decides, shards_answer_as_one,
+    tight_means,
+};
 use zot_links::{
     held_elsewhere, object_calls_are_local, record_calls_are_local, what_stands_means,
 };
@@ -32,6 +36,7 @@ fn call(case: &Case, answer: &mut Answer) {
         "row" => changes::row(answer, case.given),
         "faults" => changes::faults(answer, case.given),
         "many" => many::many(answer, case.given),
+        "pool" => pools::pool(answer, case.given),
         _ => answer.fail("no such call"),
     }
 }
@@ -43,5 +48,11 @@ fn main(rt: HostRuntime) -> io::Result<ExitCode> {
     held_elsewhere();
     what_stands_means();
     tight_means();
+    // The laws of who holds what, whichever shards are asked and whoever asks.
+    changes_are_local();
+    shards_answer_as_one();
+    own_entries_are_a_run();
+    holders_follow();
+    owner_decides();
     run(&rt, call)
 }
