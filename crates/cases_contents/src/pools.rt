@@ -157,7 +157,8 @@ fn refused(error: PoolError) -> PoolReply {
 // Adds the objects of each part that has some, behind its number.
 fn say_parts(answer: &mut Answer, parts: &[MemoryStore]) {
     for (n, part) in parts.iter().enumerate() {
-        if let Ok(Some(_)) = part.path_after(answer.alloc(), "") {
+        let alloc = answer.alloc();
+        if !answer.keep(part.list(alloc), Vec::new(alloc)).is_empty() {
             answer.begin();
             answer.tell(&n);
             say_objects(answer, part);

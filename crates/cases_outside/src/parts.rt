@@ -31,15 +31,10 @@ fn held(answer: &mut Answer, kind: &str, parts: &[MemoryStore]) {
     }
 }
 
-// Adds each object of a part, of which there are less than 9.
+// Adds each object of a part.
 fn look(answer: &mut Answer, kind: &str, place: usize, part: &MemoryStore) {
     let alloc = answer.alloc();
-    let mut path = String::new(alloc);
-    for _ in 0..9 {
-        let Ok(Some(next)) = part.path_after(alloc, path.as_str()) else {
-            return;
-        };
-        path = answer.text_of(next.as_str());
+    for (path, bytes) in answer.keep(part.list(alloc), Vec::new(alloc)) {
         answer.begin();
         answer.say(kind);
         answer.say(" ");
@@ -47,8 +42,6 @@ fn look(answer: &mut Answer, kind: &str, place: usize, part: &MemoryStore) {
         answer.say(" ");
         answer.say(path.as_str());
         answer.say("=");
-        if let Ok(Some(bytes)) = part.object(alloc, path.as_str()) {
-            answer.write(bytes.as_slice());
-        }
+        answer.write(bytes.as_slice());
     }
 }

@@ -65,21 +65,13 @@ fn write(
     }
 }
 
-// Adds each object of a store, of which there are less than 9, with its bytes.
+// Adds each object of a store with its bytes.
 fn stored(answer: &mut Answer, store: &MemoryStore) {
     let alloc = answer.alloc();
-    let mut path = String::new(alloc);
-    for _ in 0..9 {
-        let Ok(Some(next)) = store.path_after(alloc, path.as_str()) else {
-            return;
-        };
-        path = answer.text_of(next.as_str());
+    for (path, bytes) in answer.keep(store.list(alloc), Vec::new(alloc)) {
         answer.begin();
         answer.say(path.as_str());
         answer.say(" ");
-        match store.object(alloc, path.as_str()) {
-            Ok(Some(bytes)) => answer.write(bytes.as_slice()),
-            _ => answer.fail("no object"),
-        }
+        answer.write(bytes.as_slice());
     }
 }

@@ -2,11 +2,11 @@
 use Rattle.std.proofs.Common.{◌≡◌, ℕ, inl, inr, Bool, List, Option, Some, None, refl, sym, ap, subst}
 use Rattle.std.specs.Prelude.{IfOk, IfSome, OnErr, OnOk, Result, Ok, Err}
 use Rattle.zot_outside.specs.Faults.{HasStoreCause, Rose}
-use Rattle.zot_outside.specs.Objects.{Objects}
+use Rattle.zot_outside.specs.Objects.{Objects, Told}
 use Rattle.zot_outside.specs.declared.stores.store_error.StoreError.{StoreError}
 use Rattle.zot_outside.specs.declared.stores.store_error.StoreError.TheVariants.{Missing, Failed, NoMemory}
 use Rattle.zot_links.proofs.ToldLemmas.{told_so}
-use Rattle.zot_links.specs.Changes.{HasCallsCause, Told}
+use Rattle.zot_links.specs.Changes.{HasCallsCause}
 use Rattle.zot_links.specs.Meaning.{held}
 use Rattle.zot_contents.specs.Answers.{HasReplyCause, OnHeld, OnReplyFailed, OnReplyNoMemory, Replies}
 use Rattle.zot_contents.specs.Holdings.{AreAllHeld}

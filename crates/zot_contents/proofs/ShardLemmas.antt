@@ -4,11 +4,11 @@ use Rattle.std.specs.Prelude.{IfOk, IsSome, Result, Ok, Err, OnErr, if◌then◌
 use Rattle.std.specs.FinMap as map
 use Rattle.zot_digest.specs.Digest.{IsDigest}
 use Rattle.zot_names.specs.Name.{IsName}
-use Rattle.zot_outside.specs.Objects.{Objects}
+use Rattle.zot_outside.specs.Objects.{Objects, Told}
 use Rattle.zot_links.proofs.MeaningLemmas.{held_local}
 use Rattle.zot_links.proofs.StandLemmas.{decide, eq_false, eq_true}
 use Rattle.zot_links.proofs.ToldLemmas.{told_so}
-use Rattle.zot_links.specs.Changes.{Keeps, KeepsOthers, Sets, Told, Turns, with_held}
+use Rattle.zot_links.specs.Changes.{Keeps, KeepsOthers, Sets, Turns, with_held}
 use Rattle.zot_links.specs.Holding.{Releases}
 use Rattle.zot_links.specs.Meaning.{IsTight, IsWhole, Links, Stands, held, line_among, line_at, object_at, origin_of, record_at, record_in}
 use Rattle.zot_contents.specs.Pool.{AreSame, Gives, plain_attach, plain_detach, with_bytes}

@@ -5,8 +5,7 @@ use Rattle.std.specs.FinMap as map
 use Rattle.zot_digest.specs.ByteMap.{ByteMap}
 use Rattle.zot_digest.specs.Digest.{IsDigest}
 use Rattle.zot_names.specs.Name.{IsName}
-use Rattle.zot_outside.specs.Objects.{Objects}
-use Rattle.zot_links.specs.Changes.{Told}
+use Rattle.zot_outside.specs.Objects.{Objects, Told}
 use Rattle.zot_links.specs.Meaning.{IsTight, Links, Stands, line_at, links_code, object_at, origin_of}
 use Rattle.zot_contents.specs.declared.pool_call.PoolCall.{PoolCall}
 use Rattle.zot_contents.specs.declared.pool_call.PoolCall.TheVariants as calls

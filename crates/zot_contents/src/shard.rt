@@ -3,7 +3,8 @@ ghost use Rattle.std.specs.Prelude.{◌≡◌, IfOk, IfSome, OnErr, OnOk, map as
 ghost use Rattle.std.proofs.Props.{props};
 ghost use Rattle.zot_outside.specs.Faults.{HasStoreCause, OnMissing};
 ghost use Rattle.zot_links.specs.Aims.{IsAimed};
-ghost use Rattle.zot_links.specs.Changes.{HasCallsCause, Told};
+ghost use Rattle.zot_outside.specs.Objects.{Told};
+ghost use Rattle.zot_links.specs.Changes.{HasCallsCause};
 ghost use Rattle.zot_links.specs.Meaning.{held};
 ghost use Rattle.zot_contents.specs.Holdings.{AreAllHeld};
 ghost use Rattle.zot_contents.specs.Listing.{place_of, places_of};

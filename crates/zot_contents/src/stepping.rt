@@ -1,7 +1,7 @@
 //! Calls on a shard of digests, as values.
 ghost use Rattle.std.specs.Prelude.{◌≡◌, option_map, map as each};
 ghost use Rattle.zot_outside.specs.Faults.{OnMissing};
-ghost use Rattle.zot_links.specs.Changes.{Told};
+ghost use Rattle.zot_outside.specs.Objects.{Told};
 ghost use Rattle.zot_links.specs.Meaning.{held};
 ghost use Rattle.zot_contents.specs.Answers.{HasReplyCause, OnHeld, OnLook, OnMissed, Refuses, Replies};
 ghost use Rattle.zot_contents.specs.Listing.{place_of, places_of};

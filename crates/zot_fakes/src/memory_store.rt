@@ -9,7 +9,7 @@ ghost use Rattle.zot_outside.specs.Objects.{Copies, Deletes, Extends, Follows, H
 use crate::calls::Calls;
 use crate::steady_store::SteadyStore;
 use std::alloc::{AllocError, Global};
-use zot_digest::{Bytes, Words};
+use zot_digest::Bytes;
 use zot_outside::{Failed, Store, StoreError, StoreResult};
 
 /// A store in memory that tells its objects, and fails exactly the calls of a list.
@@ -51,11 +51,11 @@ impl MemoryStore {
         self.store.object(alloc, path)
     }
 
-    /// A look at the least path of an object that is greater than a path, which is no call of the store. It fails only where memory runs out.
-    pub fn path_after(&self, alloc: Global, after: &str) -> Result<Option<&Words>, AllocError>
-        ensures { IfOk result (λ found. Follows (Some (memory_objects self.now)) after.now (option_copied found)) }
+    /// A copy of all objects, with their paths, in the order of the paths, which is no call of the store. It fails only where memory runs out.
+    pub fn list(&self, alloc: Global) -> Result<Vec<(String, Vec<u8>)>, AllocError>
+        ensures { IfOk result (λ list. each (λ o. (string_bytes o.0, o.1.items)) list.items ≡ map.entries (memory_objects self.now)) }
     {
-        self.store.path_after(alloc, after)
+        self.store.list(alloc)
     }
 }
 

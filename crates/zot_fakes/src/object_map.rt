@@ -1,6 +1,7 @@
 //! Objects in memory, by their paths.
 ghost use Rattle.std.specs.Prelude.{◌≡◌, ◌<◌, ◌≤◌, ◌^◌, ◌++◌, false, IfOk, OnErr, OnOk, Some, is_some, map as each, option_copied, string_bytes};
 ghost use Rattle.std.specs.FinMap as map;
+ghost use Rattle.zot_digest.specs.ByteMap.{map_of};
 ghost use Rattle.zot_fakes.specs.Given.{objects_of};
 ghost use Rattle.zot_outside.specs.Objects.{Follows, bytes_at, with_object};
 
@@ -117,6 +118,13 @@ impl ObjectMap {
         Ok(self.tree.remove(&key).is_some())
     }
 
+    /// A copy of all objects, with their paths, in the order of the paths. It fails only where memory runs out.
+    pub fn list(&self, alloc: Global) -> Result<Vec<(String, Vec<u8>)>, AllocError>
+        ensures { IfOk result (λ list. each (λ o. (string_bytes o.0, o.1.items)) list.items ≡ map.entries self.now) }
+    {
+        list(alloc, &self.tree)
+    }
+
     /// The least path of an object that is greater than a path. It fails only where memory runs out.
     pub fn next(&self, alloc: Global, after: &str) -> Result<Option<&Words>, AllocError>
         ensures { IfOk result (λ found. Follows (Some self.now) after.now (option_copied found)) }
@@ -127,6 +135,21 @@ impl ObjectMap {
             None => Ok(None),
         }
     }
+}
+
+// A copy of the objects of a tree, in its order.
+fn list(alloc: Global, tree: &BTreeMap<Words, Bytes>) -> Result<Vec<(String, Vec<u8>)>, AllocError>
+    ensures { IfOk result (λ list. each (λ o. (string_bytes o.0, o.1.items)) list.items ≡ map.entries (map_of tree.now.entries)) }
+{
+    let mut list = Vec::new(alloc);
+    for (path, bytes) in tree.iter() {
+        let object = (
+            path.copy(alloc)?.into_string(),
+            bytes.copy(alloc)?.into_vec(),
+        );
+        list.push(object)?;
+    }
+    Ok(list)
 }
 
 // Adds bytes after others. After an `Err` these are as they were.

@@ -2,11 +2,10 @@
 ghost use Rattle.std.specs.Prelude.{◌≡◌, ◌<◌, ◌^◌, ◌≤◌, IfOk, OnErr, OnOk, length, drop, map as each, min, option_copied, string_bytes, take, Some};
 ghost use Rattle.std.specs.FinMap as map;
 ghost use Rattle.zot_fakes.specs.Given.{objects_of};
-ghost use Rattle.zot_outside.specs.Objects.{Follows};
 
 use crate::object_map::ObjectMap;
 use std::alloc::{AllocError, Global};
-use zot_digest::{Bytes, Words};
+use zot_digest::Bytes;
 use zot_outside::{Failed, Store, StoreError, StoreResult};
 
 /// A store in memory that never fails: its count of faults stays 0. It tells its objects.
@@ -48,11 +47,11 @@ impl SteadyStore {
         self.objects.get(alloc, path)
     }
 
-    /// A look at the least path of an object that is greater than a path, which is no call of the store. It fails only where memory runs out.
-    pub fn path_after(&self, alloc: Global, after: &str) -> Result<Option<&Words>, AllocError>
-        ensures { IfOk result (λ found. Follows (Some (steady_objects self.now)) after.now (option_copied found)) }
+    /// A copy of all objects, with their paths, in the order of the paths, which is no call of the store. It fails only where memory runs out.
+    pub fn list(&self, alloc: Global) -> Result<Vec<(String, Vec<u8>)>, AllocError>
+        ensures { IfOk result (λ list. each (λ o. (string_bytes o.0, o.1.items)) list.items ≡ map.entries (steady_objects self.now)) }
     {
-        self.objects.next(alloc, after)
+        self.objects.list(alloc)
     }
 }
 

@@ -1,9 +1,8 @@
 -- What calls of the store do, where it tells its objects.
 use Rattle.std.proofs.Common.{◌≡◌, List, ℕ, IfSome, Option, Some, None, option_map, Result, Ok, Err, refl, sym, ap, subst, ◌∙◌}
 use Rattle.std.specs.Prelude.{OnErr, OnOk}
-use Rattle.zot_outside.specs.Objects.{ChangesAt, Deletes, IsMissing, Makes, Objects, Puts}
+use Rattle.zot_outside.specs.Objects.{ChangesAt, Deletes, IsMissing, Makes, Objects, Puts, Told}
 use Rattle.zot_outside.proofs.ObjectLemmas.{changes-put, changes-remove}
-use Rattle.zot_layout.specs.Writing.{Told}
 
 -- a fact of a result that follows from another
 pub ok_so : {T E : Type 0} (r : Result T E) (P Q : Type 0) → (P → Q) → OnOk r P → OnOk r Q

@@ -12,14 +12,14 @@ use Rattle.zot_media.specs.Fields.{◌>>=◌, document, text_of}
 use Rattle.zot_media.specs.Manifest.{is_text}
 use Rattle.zot_media.proofs.FieldLemmas.{document_some}
 use Rattle.zot_model.specs.State.{Becomes, RepoState, RowState, fresh, repo_at}
-use Rattle.zot_outside.specs.Objects.{ChangesAt, Objects, Puts}
+use Rattle.zot_outside.specs.Objects.{ChangesAt, Objects, Puts, Told}
 use Rattle.zot_layout.specs.Marker.{is_marker, marker_text}
 use Rattle.zot_layout.specs.Paths.{index_path, marker_path}
 use Rattle.zot_layout.specs.Reading.{meaning}
 use Rattle.zot_layout.specs.Rows.{index_by, known_by, layout_by, layout_of}
 use Rattle.zot_layout.specs.Stands.{AreAlike, StandsFor, StandsForRow, opened_repo, repo_of}
 use Rattle.zot_layout.specs.State.{as_written}
-use Rattle.zot_layout.specs.Writing.{IsKnown, IsUnknown, KeepsElsewhere, KeepsLayouts, PutsIndex, SetsLayout, StandsWhereTold, Told}
+use Rattle.zot_layout.specs.Writing.{IsKnown, IsUnknown, KeepsElsewhere, KeepsLayouts, PutsIndex, SetsLayout, StandsWhereTold}
 use Rattle.zot_layout.specs.declared.index_state.IndexState.{IndexState}
 use Rattle.zot_layout.specs.declared.layout_error.LayoutError.{LayoutError}
 use Rattle.zot_layout.specs.declared.layout_error.LayoutError.TheVariants.{BadIndex}

@@ -2,18 +2,12 @@
 use Rattle.std.specs.Prelude.{◌≡◌, ◌≢◌, ℕ, true, List, Option, Some, None, Ok, IfSome, IsSomeAnd}
 use Rattle.std.specs.FinMap as finite
 use Rattle.zot_model.specs.State.{RowState}
-use Rattle.zot_outside.specs.Objects.{Objects}
+use Rattle.zot_outside.specs.Objects.{Objects, Told}
 use Rattle.zot_layout.specs.Marker.{is_marker}
 use Rattle.zot_layout.specs.Paths.{index_path, marker_path}
 use Rattle.zot_layout.specs.Rows.{index_by, layout_of}
 use Rattle.zot_layout.specs.Stands.{StandsForRow}
 use Rattle.zot_layout.specs.declared.index_state.IndexState.{IndexState}
-
--- a fact of the objects before and after, where they are told; a store tells them after as it did before
-abbrev pub Told : Option Objects → Option Objects → (Objects → Objects → Type 0) → Type 0
-Told None after P = after ≡ None
-Told (Some old) None P = ⊥
-Told (Some old) (Some new) P = P old new
 
 -- the objects stand for a row, where they are told
 abbrev pub StandsWhereTold : Option Objects → ℕ → (List ℕ → Type 0) → RowState → Type 0

@@ -1,12 +1,12 @@
 //! What a row writes of a repository: its index and its marker.
 ghost use Rattle.std.specs.Prelude.{◌≡◌, Some, None, OnErr, OnOk};
 ghost use Rattle.zot_outside.specs.Faults.{HasStoreCause, OnMissing};
-ghost use Rattle.zot_outside.specs.Objects.{ChangesAt, Keeps, Makes, Puts, with_object};
+ghost use Rattle.zot_outside.specs.Objects.{ChangesAt, Keeps, Makes, Puts, Told, with_object};
 ghost use Rattle.zot_layout.specs.Marker.{marker_text};
 ghost use Rattle.zot_layout.specs.Paths.{index_path, marker_path};
 ghost use Rattle.zot_layout.specs.State.{IsIndex, as_written};
 ghost use Rattle.zot_layout.specs.Text.{index_text};
-ghost use Rattle.zot_layout.specs.Writing.{IsUnknown, KeepsLayouts, PutsIndex, SetsLayout, Told};
+ghost use Rattle.zot_layout.specs.Writing.{IsUnknown, KeepsLayouts, PutsIndex, SetsLayout};
 
 use crate::index_state::IndexState;
 use crate::marker::marker_text;

@@ -2,13 +2,13 @@
 ghost use Rattle.std.specs.Prelude.{◌≡◌, ◌≢◌, ℕ, List, Option, Some, None, Ok, true, false};
 ghost use Rattle.std.specs.FinMap as map;
 ghost use Rattle.zot_model.specs.State.{Becomes, RepoState, RowState, fresh, repo_at};
-ghost use Rattle.zot_outside.specs.Objects.{Objects};
+ghost use Rattle.zot_outside.specs.Objects.{Objects, Told};
 ghost use Rattle.zot_layout.specs.Marker.{marker_meaning, marker_text};
 ghost use Rattle.zot_layout.specs.Paths.{index_path, marker_path};
 ghost use Rattle.zot_layout.specs.Rows.{IsOfRow, layout_of};
 ghost use Rattle.zot_layout.specs.Stands.{AreAlike, StandsFor, opened_repo};
 ghost use Rattle.zot_layout.specs.State.{as_written};
-ghost use Rattle.zot_layout.specs.Writing.{IsKnown, IsUnknown, KeepsLayouts, PutsIndex, SetsLayout, StandsWhereTold, Told};
+ghost use Rattle.zot_layout.specs.Writing.{IsKnown, IsUnknown, KeepsLayouts, PutsIndex, SetsLayout, StandsWhereTold};
 ghost use Rattle.zot_layout.specs.declared.index_state.IndexState.{IndexState as AState};
 
 /// The marker that is written is read as one.

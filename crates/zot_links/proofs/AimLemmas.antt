@@ -12,12 +12,12 @@ use Rattle.std.proofs.lemmas.Bool.{true≢false}
 use Rattle.zot_digest.specs.ByteMap.{byte_cmp, map_of}
 use Rattle.zot_maps.proofs.Maps.{byte_order, same_key, tied_keys}
 use Rattle.zot_names.specs.Name.{IsName}
-use Rattle.zot_outside.specs.Objects.{Objects}
+use Rattle.zot_outside.specs.Objects.{Objects, Told}
 use Rattle.zot_links.proofs.HeldLemmas.{held_source, nothing_there}
 use Rattle.zot_links.proofs.LinkLemmas.{apart}
 use Rattle.zot_links.proofs.ToldLemmas.{told_with}
 use Rattle.zot_links.specs.Aims.{Attains, IsAim, IsAimed, IsFirst, IsSought}
-use Rattle.zot_links.specs.Changes.{Sets, Told}
+use Rattle.zot_links.specs.Changes.{Sets}
 use Rattle.zot_links.specs.Holding.{HasOrigin, source_of}
 use Rattle.zot_links.specs.Meaning.{IsFresh, IsWhole, Links, Stands, StandsWhereTold, held, held_by, line_at, object_at, origin_of}
 use Rattle.zot_links.specs.declared.aim.Aim.{Aim}

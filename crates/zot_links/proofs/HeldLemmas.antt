@@ -4,12 +4,12 @@ use Rattle.std.specs.Prelude.{option_map, ⊤}
 use Rattle.std.specs.FinMap as map
 use Rattle.std.proofs.lemmas.Bool.{true≢false}
 use Rattle.zot_names.specs.Name.{IsName}
-use Rattle.zot_outside.specs.Objects.{IsMissing, Objects}
+use Rattle.zot_outside.specs.Objects.{IsMissing, Objects, Told}
 use Rattle.zot_outside.specs.Whole.{HasObject}
 use Rattle.zot_links.proofs.PartLemmas.{there_object}
 use Rattle.zot_links.proofs.ReleaseLemmas.{absent_held, release_link, release_none, release_whole}
 use Rattle.zot_links.proofs.StandLemmas.{held_is, holds, link_holds, whole_holds}
-use Rattle.zot_links.specs.Changes.{Sets, Told}
+use Rattle.zot_links.specs.Changes.{Sets}
 use Rattle.zot_links.specs.Holding.{MayChange, Releases, source_of}
 use Rattle.zot_links.specs.Meaning.{IsFree, Links, Stands, StandsWhereTold, held, object_at, object_path}
 

@@ -3,7 +3,7 @@ use Rattle.std.proofs.Common.{◌≡◌, ◌≢◌, ℕ, inl, inr, List, Option,
 use Rattle.std.specs.Prelude.{Result, Ok, Err, OnErr}
 use Rattle.std.specs.FinMap as map
 use Rattle.zot_names.specs.Name.{IsName}
-use Rattle.zot_outside.specs.Objects.{Objects}
+use Rattle.zot_outside.specs.Objects.{Objects, Told}
 use Rattle.zot_links.proofs.OrderLemmas.{copied, kept_self, kept_then, promoted, with_beside, with_here, with_one}
 use Rattle.zot_links.proofs.PathLemmas.{keeps_further}
 use Rattle.zot_links.proofs.PromotionLemmas.{at_name, was_whole, whole_rest}
@@ -11,7 +11,7 @@ use Rattle.zot_links.proofs.StandLemmas.{decide, link_free, link_held, own_stand
 use Rattle.zot_links.proofs.TightLemmas.{fresh_same, tight_but_one}
 use Rattle.zot_links.proofs.ToldLemmas.{told_so, told_then}
 use Rattle.zot_links.proofs.WriteLemmas.{its_bytes}
-use Rattle.zot_links.specs.Changes.{Keeps, RecordsLinks, Sets, SetsObject, Told, with_held}
+use Rattle.zot_links.specs.Changes.{Keeps, RecordsLinks, Sets, SetsObject, with_held}
 use Rattle.zot_links.specs.Holding.{GetsBytes, IsLinked, MayChange, Prepares, Spares, form_of}
 use Rattle.zot_links.specs.Meaning.{IsFree, IsFresh, IsLink, IsWhole, Links, Stands, held, object_at}
 use Rattle.zot_links.specs.Orders.{Begins, MayRelink, bytes_by, fresh_whole}

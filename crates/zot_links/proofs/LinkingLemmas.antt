@@ -4,14 +4,14 @@ use Rattle.std.specs.Prelude.{Result, Ok, Err, ⊤}
 use Rattle.std.specs.FinMap as map
 use Rattle.zot_maps.proofs.Maps.{byte_order, get_here}
 use Rattle.zot_outside.specs.Faults.{HasStoreCause, UnlessFailed}
-use Rattle.zot_outside.specs.Objects.{Objects}
+use Rattle.zot_outside.specs.Objects.{Objects, Told}
 use Rattle.zot_outside.specs.declared.stores.store_error.StoreError.{StoreError}
 use Rattle.zot_outside.specs.declared.stores.store_error.StoreError.TheVariants.{Missing, Failed, NoMemory}
 use Rattle.zot_links.proofs.HoldLemmas.{blanked, kept_sets}
 use Rattle.zot_links.proofs.OrderLemmas.{kept_self, turns_then}
 use Rattle.zot_links.proofs.StandLemmas.{link_free}
 use Rattle.zot_links.proofs.ToldLemmas.{told_keeps, told_so, told_then}
-use Rattle.zot_links.specs.Changes.{HasCallsCause, Keeps, Sets, SetsObject, Told, UnlessDone}
+use Rattle.zot_links.specs.Changes.{HasCallsCause, Keeps, Sets, SetsObject, UnlessDone}
 use Rattle.zot_links.specs.Holding.{GetsLink, HasOrigin, IsLinked, Prepares}
 use Rattle.zot_links.specs.Meaning.{IsFree, IsLink, IsWhole, Links, Stands}
 use Rattle.zot_links.specs.Orders.{Begins, MayRelink, bytes_by, fresh_whole}

@@ -4,11 +4,11 @@ use Rattle.std.specs.Prelude.{Result, Ok, Err, OnErr, OnOk}
 use Rattle.std.specs.FinMap as map
 use Rattle.std.proofs.lemmas.Bool.{eqb-true}
 use Rattle.zot_digest.specs.Digest.{IsDigest}
-use Rattle.zot_outside.specs.Objects.{ChangesAt, Copies, IsMissing, Objects, Puts}
+use Rattle.zot_outside.specs.Objects.{ChangesAt, Copies, IsMissing, Objects, Puts, Told}
 use Rattle.zot_outside.specs.Whole.{HasObject}
 use Rattle.zot_links.proofs.PathLemmas.{sets_object, sets_record}
 use Rattle.zot_links.proofs.ToldLemmas.{told_copies, told_puts, told_so}
-use Rattle.zot_links.specs.Changes.{RecordsLinks, SetsObject, Told, WritesRecord}
+use Rattle.zot_links.specs.Changes.{RecordsLinks, SetsObject, WritesRecord}
 use Rattle.zot_links.specs.Meaning.{Links, object_at, object_path, record_in, record_path}
 use Rattle.zot_links.specs.Records.{line_in, record_of}
 use Rattle.zot_links.specs.declared.record_line.RecordLine.{RecordLine}

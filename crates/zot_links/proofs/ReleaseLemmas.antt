@@ -4,12 +4,12 @@ use Rattle.std.specs.Prelude.{Result, Ok, Err, IfOk, OnOk, ⊤}
 use Rattle.std.specs.FinMap as map
 use Rattle.std.proofs.lemmas.Bool.{true≢false}
 use Rattle.zot_names.specs.Name.{IsName}
-use Rattle.zot_outside.specs.Objects.{Objects}
+use Rattle.zot_outside.specs.Objects.{Objects, Told}
 use Rattle.zot_links.proofs.HoldLemmas.{kept_sets, still}
 use Rattle.zot_links.proofs.OrderLemmas.{with_one}
 use Rattle.zot_links.proofs.StandLemmas.{held_is, link_free, link_holds, whole_holds}
 use Rattle.zot_links.proofs.ToldLemmas.{told_so, told_then}
-use Rattle.zot_links.specs.Changes.{Sets, Told}
+use Rattle.zot_links.specs.Changes.{Sets}
 use Rattle.zot_links.specs.Holding.{IsLinked, MayChange, Prepares, Releases}
 use Rattle.zot_links.specs.Meaning.{IsFree, IsWhole, Links, Stands, held, held_by, object_at, origin_of}
 

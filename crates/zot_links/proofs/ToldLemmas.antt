@@ -1,9 +1,8 @@
 -- What calls of the store do, where it tells its objects.
 use Rattle.std.proofs.Common.{◌≡◌, ℕ, List, Option, Some, None, refl, sym, subst, IfSome}
 use Rattle.std.specs.FinMap as map
-use Rattle.zot_outside.specs.Objects.{ChangesAt, Copies, Deletes, Objects, Puts}
+use Rattle.zot_outside.specs.Objects.{ChangesAt, Copies, Deletes, Objects, Puts, Told}
 use Rattle.zot_outside.proofs.ObjectLemmas.{changes-put, changes-remove}
-use Rattle.zot_links.specs.Changes.{Told}
 use Rattle.zot_links.specs.Meaning.{Links, Stands, StandsWhereTold}
 
 pub told_puts : (before after : Option Objects) (path bytes : List ℕ) → Puts before path bytes after → Told before after (λ old new. ChangesAt old path (Some bytes) new)

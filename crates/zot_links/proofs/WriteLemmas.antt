@@ -4,10 +4,10 @@ use Rattle.std.specs.Prelude.{Result, Ok, Err, OnErr, ⊤}
 use Rattle.std.specs.FinMap as map
 use Rattle.std.proofs.lemmas.Bool.{true≢false}
 use Rattle.zot_maps.proofs.Maps.{byte_order, get_here}
-use Rattle.zot_outside.specs.Objects.{Objects}
+use Rattle.zot_outside.specs.Objects.{Objects, Told}
 use Rattle.zot_links.proofs.OrderLemmas.{added, copied, kept_self, line_kept, promoted, relinked, removed, tidied, turns_then}
 use Rattle.zot_links.proofs.ToldLemmas.{told_keeps, told_so, told_then}
-use Rattle.zot_links.specs.Changes.{Keeps, RecordsLinks, Sets, SetsObject, Told}
+use Rattle.zot_links.specs.Changes.{Keeps, RecordsLinks, Sets, SetsObject}
 use Rattle.zot_links.specs.Meaning.{IsFree, IsLink, IsWhole, Links, Stands, object_at}
 use Rattle.zot_links.specs.Orders.{Begins, MayRelink, bytes_by, fresh_whole}
 use Rattle.zot_links.specs.Promotion.{promote}

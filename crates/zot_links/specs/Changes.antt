@@ -5,18 +5,12 @@ use Rattle.std.specs.Str.{bytes_eq}
 use Rattle.zot_digest.specs.Digest.{IsDigest}
 use Rattle.zot_names.specs.Name.{IsName}
 use Rattle.zot_outside.specs.Faults.{OnFailed, Rose}
-use Rattle.zot_outside.specs.Objects.{ChangesAt, Objects}
+use Rattle.zot_outside.specs.Objects.{ChangesAt, Objects, Told}
 use Rattle.zot_outside.specs.declared.stores.store_error.StoreError.{StoreError}
 use Rattle.zot_outside.specs.declared.stores.store_error.StoreError.TheVariants.{Missing, Failed, NoMemory}
 use Rattle.zot_links.specs.Meaning.{IsTight, Links, Stands, held, object_at, record_at, record_in, record_path}
 use Rattle.zot_links.specs.Records.{line_in, record_of}
 use Rattle.zot_links.specs.declared.record_line.RecordLine.{RecordLine}
-
--- a fact of the objects before and after, where they are told; a store tells them after as it did before
-abbrev pub Told : Option Objects → Option Objects → (Objects → Objects → Type 0) → Type 0
-Told None after P = after ≡ None
-Told (Some old) None P = ⊥
-Told (Some old) (Some new) P = P old new
 
 -- every other digest's objects and record are as before
 abbrev pub KeepsOthers : Objects → List ℕ → Objects → Type 0

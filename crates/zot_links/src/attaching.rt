@@ -5,7 +5,8 @@ ghost use Rattle.std.specs.List.Sorted.{IsStrictlySortedBy};
 ghost use Rattle.zot_digest.specs.ByteMap.{byte_cmp};
 ghost use Rattle.zot_outside.specs.Faults.{HasStoreCause, OnMissing};
 ghost use Rattle.zot_links.specs.Aims.{Attains, HasBytes, IsAim, IsAimed, IsFirst};
-ghost use Rattle.zot_links.specs.Changes.{HasCallsCause, Keeps, Sets, Told};
+ghost use Rattle.zot_outside.specs.Objects.{Told};
+ghost use Rattle.zot_links.specs.Changes.{HasCallsCause, Keeps, Sets};
 ghost use Rattle.zot_links.specs.Meaning.{StandsWhereTold, held, object_at};
 
 use crate::aim::Aim;

@@ -1,7 +1,8 @@
 //! A repository gets bytes of its own.
 ghost use Rattle.std.specs.Prelude.{◌≡◌, OnErr, OnOk, Some};
 ghost use Rattle.zot_outside.specs.Faults.{HasStoreCause, OnMissing};
-ghost use Rattle.zot_links.specs.Changes.{Keeps, Sets, Told};
+ghost use Rattle.zot_outside.specs.Objects.{Told};
+ghost use Rattle.zot_links.specs.Changes.{Keeps, Sets};
 ghost use Rattle.zot_links.specs.Holding.{GetsBytes, IsLinked, Prepares};
 ghost use Rattle.zot_links.specs.Meaning.{IsFresh, IsWhole, Stands, StandsWhereTold};
 

@@ -1,7 +1,8 @@
 //! A repository gets a link to another.
 ghost use Rattle.std.specs.Prelude.{◌≡◌, ◌≤◌, ℕ, List, OnErr, OnOk, Some, ⊤};
 ghost use Rattle.zot_outside.specs.Faults.{OnMissing};
-ghost use Rattle.zot_links.specs.Changes.{HasCallsCause, Keeps, Sets, Told};
+ghost use Rattle.zot_outside.specs.Objects.{Told};
+ghost use Rattle.zot_links.specs.Changes.{HasCallsCause, Keeps, Sets};
 ghost use Rattle.zot_links.specs.Holding.{GetsLink, HasOrigin, IsLinked};
 ghost use Rattle.zot_links.specs.Meaning.{IsFree, IsLink, IsWhole, Links, Stands, StandsWhereTold};
 

@@ -2,7 +2,8 @@
 ghost use Rattle.std.specs.Prelude.{◌≡◌, ◌≤◌, ℕ, List, None, Some, IfSome, IsSome, OnErr, OnOk, option_copied, ⊤};
 ghost use Rattle.std.specs.FinMap as map;
 ghost use Rattle.zot_outside.specs.Faults.{HasStoreCause, OnMissing};
-ghost use Rattle.zot_links.specs.Changes.{HasCallsCause, Keeps, Sets, Told};
+ghost use Rattle.zot_outside.specs.Objects.{Told};
+ghost use Rattle.zot_links.specs.Changes.{HasCallsCause, Keeps, Sets};
 ghost use Rattle.zot_links.specs.Holding.{Prepares};
 ghost use Rattle.zot_links.specs.Meaning.{IsFree, IsLink, IsWhole, Stands, object_at};
 ghost use Rattle.zot_links.specs.Orders.{Begins, MayRelink, bytes_by, fresh_whole};

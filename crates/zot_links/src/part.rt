@@ -2,8 +2,8 @@
 ghost use Rattle.std.specs.Prelude.{◌≡◌, ◌↔◌, true, None, Some, IfOk, IfSome, IsSome, IsTrue, OnErr, OnOk};
 ghost use Rattle.zot_outside.specs.Faults.{HasStoreCause, OnMissing};
 ghost use Rattle.std.specs.FinMap as map;
-ghost use Rattle.zot_outside.specs.Objects.{ChangesAt, Copies};
-ghost use Rattle.zot_links.specs.Changes.{RecordsLinks, SaysLinks, SetsObject, Told, WritesRecord};
+ghost use Rattle.zot_outside.specs.Objects.{ChangesAt, Copies, Told};
+ghost use Rattle.zot_links.specs.Changes.{RecordsLinks, SaysLinks, SetsObject, WritesRecord};
 ghost use Rattle.zot_links.specs.Meaning.{object_at, record_in};
 ghost use Rattle.zot_links.specs.Records.{record_of};
 

@@ -2,7 +2,8 @@
 ghost use Rattle.std.specs.Prelude.{◌≡◌, true, IfOk, None, OnErr, OnOk, ⊤};
 ghost use Rattle.zot_names.specs.Name.{IsName};
 ghost use Rattle.zot_outside.specs.Faults.{OnMissing};
-ghost use Rattle.zot_links.specs.Changes.{HasCallsCause, Keeps, Sets, Told};
+ghost use Rattle.zot_outside.specs.Objects.{Told};
+ghost use Rattle.zot_links.specs.Changes.{HasCallsCause, Keeps, Sets};
 ghost use Rattle.zot_links.specs.Holding.{MayChange, Releases};
 ghost use Rattle.zot_links.specs.Meaning.{IsFree, Stands, StandsWhereTold};
 

@@ -107,9 +107,18 @@ entry_of request reply moment faults = record { event = asked request reply; mom
 abbrev pub mount_entry : Request → Reply → List ℕ → ℕ → ℕ → Entry
 mount_entry request reply bytes moment faults = record { event = mounted request reply bytes; moment = moment; faults = faults }
 
--- the entries stand for a call at a moment and its answer: one of a request and its reply
+-- the entry of a request and its reply, where it took over these bytes, if any
+abbrev pub entry_by : Request → Reply → Option (List ℕ) → ℕ → ℕ → Entry
+entry_by request reply None moment faults = entry_of request reply moment faults
+entry_by request reply (Some bytes) moment faults = mount_entry request reply bytes moment faults
+
+-- the entry of a call and its answer
+abbrev pub entry_for : RowCall → RowReply → Option (List ℕ) → ℕ → ℕ → Entry
+entry_for (Ask request) (answers.Reply reply) taken moment faults = entry_by request reply taken moment faults
+
+-- the entries stand for a call at a moment and its answer: one of a request and its reply, which may have taken over bytes
 abbrev pub StandFor : RowCall → ℕ → RowReply → List Entry → Type 0
-StandFor (Ask request) moment (answers.Reply reply) entries = (faults : ℕ) × (entries ≡ entry_of request reply moment faults ∷ [])
+StandFor call moment answer entries = (taken : Option (List ℕ)) × (faults : ℕ) × (entries ≡ entry_for call answer taken moment faults ∷ [])
 
 -- a call at a moment is answered so and leads from the old row to the new one: by entries that stand for it
 pub record Enters (old : RowState) (call : RowCall) (moment : ℕ) (answer : RowReply) (new : RowState) : Type 0 where

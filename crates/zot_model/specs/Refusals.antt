@@ -1,7 +1,7 @@
 -- Refusals: a code, its status from the table of codes, and what is said beside it.
 use Rattle.std.specs.Prelude.{ℕ}
 use Rattle.zot_model.specs.declared.code.Code.{Code}
-use Rattle.zot_model.specs.declared.code.Code.TheVariants.{BlobUploadInvalid, NoMemory, StorageFault, Unsupported}
+use Rattle.zot_model.specs.declared.code.Code.TheVariants.{BlobUploadInvalid, HopRefused, NoMemory, PeerFault, StorageFault, Unsupported}
 use Rattle.zot_model.specs.declared.detail.Detail.{Detail}
 use Rattle.zot_model.specs.declared.detail.Detail.TheVariants as details
 use Rattle.zot_model.specs.declared.methods.Methods.{Methods}
@@ -24,6 +24,14 @@ no_memory = refusal NoMemory
 -- the storage failed (RFC 9110, section 15.6.1)
 abbrev pub storage_fault : Reply
 storage_fault = refusal StorageFault
+
+-- another member couldn't be asked (RFC 9110, section 15.6.3)
+abbrev pub peer_fault : Reply
+peer_fault = refusal PeerFault
+
+-- a request that a member handed on came to one that doesn't own its repository (RFC 5842, section 7.2)
+abbrev pub hop_refused : Reply
+hop_refused = refusal HopRefused
 
 -- a piece that doesn't go on where the upload of this id ends, which has so many bytes
 abbrev pub upload_invalid : ℕ → ℕ → Reply

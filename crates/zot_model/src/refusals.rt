@@ -1,6 +1,6 @@
 //! The refusals that this registry answers.
 ghost use Rattle.std.specs.Prelude.{◌≡◌};
-ghost use Rattle.zot_model.specs.Refusals.{declined, no_memory, not_allowed, range_invalid, refusal, refusal_with, unsupported_path, unsupported_query, upload_invalid};
+ghost use Rattle.zot_model.specs.Refusals.{declined, hop_refused, no_memory, not_allowed, peer_fault, range_invalid, refusal, refusal_with, storage_fault, unsupported_path, unsupported_query, upload_invalid};
 ghost use Rattle.zot_model.specs.declared.code.Code.TheVariants as codes;
 ghost use Rattle.zot_model.specs.declared.detail.Detail.TheVariants as details;
 
@@ -89,6 +89,27 @@ impl Reply {
         ensures { result ≡ no_memory }
     {
         refusal(Code::NoMemory)
+    }
+
+    /// The storage failed.
+    pub fn storage_fault() -> Self
+        ensures { result ≡ storage_fault }
+    {
+        refusal(Code::StorageFault)
+    }
+
+    /// Another member couldn't be asked.
+    pub fn peer_fault() -> Self
+        ensures { result ≡ peer_fault }
+    {
+        refusal(Code::PeerFault)
+    }
+
+    /// A request that a member handed on came to one that doesn't own its repository.
+    pub fn hop_refused() -> Self
+        ensures { result ≡ hop_refused }
+    {
+        refusal(Code::HopRefused)
     }
 }
 

@@ -32,6 +32,12 @@ abbrev pub ChangesAlong : Objects → List (List ℕ) → Objects → Type 0
 ChangesAlong old [] new = new ≡ old
 ChangesAlong old (path ∷ paths) new = (mid : Objects) × (object : Option (List ℕ)) × ChangesAt old path object mid × ChangesAlong mid paths new
 
+-- a fact of the objects before and after, where they are told; a store tells them after as it did before
+abbrev pub Told : Option Objects → Option Objects → (Objects → Objects → Type 0) → Type 0
+Told None after P = after ≡ None
+Told (Some old) None P = ⊥
+Told (Some old) (Some new) P = P old new
+
 -- a call changed the objects in this way; a store that doesn't tell them still doesn't
 abbrev pub Makes : Option Objects → (Objects → Objects) → Option Objects → Type 0
 Makes before change after = after ≡ option_map change before

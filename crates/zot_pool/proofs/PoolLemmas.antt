@@ -16,11 +16,11 @@ use Rattle.std.proofs.lemmas.List.Sums.{get_or-le-sum_by, sum-map, sum_by-set}
 use Rattle.std.proofs.lemmas.Option.{slice_get-get_or}
 use Rattle.zot_digest.specs.ByteMap.{byte_cmp}
 use Rattle.zot_outside.specs.Faults.{HasStoreCause, OnMissing, Rose}
-use Rattle.zot_outside.specs.Objects.{Objects}
+use Rattle.zot_outside.specs.Objects.{Objects, Told}
 use Rattle.zot_outside.specs.declared.stores.store.Store.{Ghosts}
 use Rattle.zot_outside.specs.declared.stores.store_error.StoreError.{StoreError}
 use Rattle.zot_outside.specs.declared.stores.store_error.StoreError.TheVariants as stores
-use Rattle.zot_links.specs.Changes.{HasCallsCause, Told}
+use Rattle.zot_links.specs.Changes.{HasCallsCause}
 use Rattle.zot_links.specs.Meaning.{held}
 use Rattle.zot_contents.proofs.HolderLemmas.{answer_of_all, listed_of_all}
 use Rattle.zot_contents.specs.Holders.{Covers, KeepsOtherShards}
@@ -147,6 +147,10 @@ module _ {S : Type 0} {G : Ghosts S} (xs : List (DigestShard S G)) (i : ℕ) (x 
       ap (λ s. s.number) is ∙ sym (get_or-map (λ s. s.number) xs i x 0 within) ∙ ap (λ l. get_or l i 0) numbered
       ∙ get_or-range_with_len 0 shards i 0 (subst (λ n. i < n) (sym (length-map xs (λ s. s.number)) ∙ ap length numbered ∙ length-range_with_len 0 shards) within)
       ∙ omega arith
+
+  -- a digest of its number is one of the shard's own
+  pub is_its_own : (digest : List ℕ) → AreNumbered xs → IsOfShard i digest → IsOfShard x.number digest
+  is_its_own digest numbered own = (own.0, own.1 ∙ sym (number_is numbered))
 
   pub still_numbered : AreNumbered xs → y.number ≡ x.number → AreNumbered (set xs i y)
   still_numbered numbered same = map-set_same (λ s. s.number) xs i y x (same ∙ ap (λ s. s.number) is) ∙ numbered

@@ -118,7 +118,7 @@ pub enters : (moment : ℕ) (old new : RowState) (request : Request) (name : Lis
     → Enters old (Ask request) moment (answers.Reply reply) new
 enters moment old new request name reply is h = record {
   entries = entry_of request reply moment new.faults ∷ [];
-  stand = (new.faults, refl);
+  stand = (None, new.faults, refl);
   run = run_one AreSame Step same_alike old new (entry_of request reply moment new.faults)
       (record { happens = subst (λ n. IsSomeAnd n (λ k. MayAnswer moment old k request.call reply new)) (sym is) h; faults = refl });
 }

@@ -12,10 +12,10 @@ use Rattle.zot_layout.specs.Paths.{index_path, marker_path}
 use Rattle.zot_layout.specs.Rows.{layout_of}
 use Rattle.zot_layout.specs.Stands.{AreAlike, StandsFor, opened_repo, without_pulls}
 use Rattle.zot_layout.specs.State.{as_written}
-use Rattle.zot_layout.specs.Writing.{IsKnown, IsUnknown, KeepsElsewhere, KeepsLayouts, PutsIndex, SetsLayout, Told}
+use Rattle.zot_layout.specs.Writing.{IsKnown, IsUnknown, KeepsElsewhere, KeepsLayouts, PutsIndex, SetsLayout}
 use Rattle.zot_layout.specs.declared.index_state.IndexState.{IndexState}
 use Rattle.zot_model.specs.State.{RepoState, fresh}
-use Rattle.zot_outside.specs.Objects.{Objects}
+use Rattle.zot_outside.specs.Objects.{Objects, Told}
 use Rattle.zot_row.specs.Going.{KeepsOthers, KeepsStanding, LeavesOthers, StandsAt, kept_of}
 use Rattle.zot_table.specs.Standing.{Holds, repo_of}
 use Rattle.zot_table.specs.Tables.{RepoTable}

@@ -6,7 +6,7 @@ use Rattle.zot_contents.specs.declared.pool_reply.PoolReply.{PoolReply}
 use Rattle.zot_contents.specs.declared.pool_reply.PoolReply.TheVariants as replies
 use Rattle.zot_layout.specs.Rows.{layout_of}
 use Rattle.zot_layout.specs.Stands.{AreAlike, StandsFor}
-use Rattle.zot_layout.specs.Writing.{KeepsElsewhere, Told}
+use Rattle.zot_layout.specs.Writing.{KeepsElsewhere}
 use Rattle.zot_model.specs.declared.call.Call.{Call}
 use Rattle.zot_model.specs.declared.reply.Reply.{Reply}
 use Rattle.zot_model.specs.Fits.{FitsCall}
@@ -15,7 +15,7 @@ use Rattle.zot_model.specs.Plain.{Stay}
 use Rattle.zot_model.specs.Refusals.{no_memory, storage_fault}
 use Rattle.zot_model.specs.State.{RepoState}
 use Rattle.zot_outside.specs.Faults.{Rose}
-use Rattle.zot_outside.specs.Objects.{Objects}
+use Rattle.zot_outside.specs.Objects.{Objects, Told}
 use Rattle.zot_table.specs.Changes.{reserved}
 use Rattle.zot_table.specs.Standing.{Agrees, Holds, repo_of}
 use Rattle.zot_table.specs.Tables.{RepoTable}

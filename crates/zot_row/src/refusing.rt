@@ -1,29 +1,17 @@
 //! How a call is answered that can't go on.
 ghost use Rattle.std.specs.Prelude.{◌≡◌};
-ghost use Rattle.zot_model.specs.Refusals.{storage_fault};
 ghost use Rattle.zot_row.specs.Refusals.{pool_refusal, store_refusal};
 
 use zot_contents::PoolReply;
-use zot_model::{Code, Detail, Reply};
+use zot_model::Reply;
 use zot_outside::StoreError;
-
-/// The reply where the storage failed.
-pub fn storage_fault() -> Reply
-    ensures { result ≡ storage_fault }
-{
-    Reply::Refused {
-        status: Code::StorageFault.status(),
-        code: Code::StorageFault,
-        detail: Detail::None,
-    }
-}
 
 /// The reply to an error of the part: the storage failed, or memory ran out.
 pub fn refused(error: StoreError) -> Reply
     ensures { result ≡ store_refusal error }
 {
     match error {
-        StoreError::Failed => storage_fault(),
+        StoreError::Failed => Reply::storage_fault(),
         StoreError::Missing | StoreError::NoMemory => Reply::no_memory(),
     }
 }
@@ -33,7 +21,7 @@ pub fn ungiven(answered: &PoolReply) -> Reply
     ensures { result ≡ pool_refusal answered.now }
 {
     match answered {
-        PoolReply::Failed => storage_fault(),
+        PoolReply::Failed => Reply::storage_fault(),
         _ => Reply::no_memory(),
     }
 }

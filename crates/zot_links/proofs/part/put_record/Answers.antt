@@ -1,7 +1,7 @@
 use Rattle.std.proofs.Common.{◌∙◌, Option, subst}
-use Rattle.zot_outside.specs.Objects.{Objects}
+use Rattle.zot_outside.specs.Objects.{Objects, Told}
 use Rattle.zot_links.proofs.PartLemmas.{ok_so, record_stands_so, record_written, stands_where}
-use Rattle.zot_links.specs.Changes.{Told, WritesRecord}
+use Rattle.zot_links.specs.Changes.{WritesRecord}
 use Rattle.zot_links.proofs.part.put_record.Goals as goal
 
 pub returns-then-branch-clause-ok : goal.returns-then-branch-clause-ok

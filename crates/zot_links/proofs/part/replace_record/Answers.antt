@@ -1,6 +1,7 @@
 use Rattle.std.proofs.Common.{◌∙◌, subst}
 use Rattle.zot_links.proofs.PartLemmas.{ok_so, record_written}
-use Rattle.zot_links.specs.Changes.{Told, WritesRecord}
+use Rattle.zot_outside.specs.Objects.{Told}
+use Rattle.zot_links.specs.Changes.{WritesRecord}
 use Rattle.zot_links.proofs.part.replace_record.Goals as goal
 
 pub returns-clause-ok : goal.returns-clause-ok

@@ -1,6 +1,7 @@
 use Rattle.std.proofs.Common.{◌≡◌, subst, true, Some, IfSome, OnOk, OnErr}
 use Rattle.zot_links.specs.Aims.{IsAimed}
-use Rattle.zot_links.specs.Changes.{Keeps, Sets, Told}
+use Rattle.zot_outside.specs.Objects.{Told}
+use Rattle.zot_links.specs.Changes.{Keeps, Sets}
 use Rattle.zot_links.specs.Meaning.{Links, StandsWhereTold}
 use Rattle.zot_contents.proofs.KeptLemmas.{both_moved, found_links, not_found, written_beside, written_here, written_only}
 use Rattle.zot_contents.specs.Shards.{links_at}

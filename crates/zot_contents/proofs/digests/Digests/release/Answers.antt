@@ -1,5 +1,6 @@
 use Rattle.std.proofs.Common.{subst, IfOk, OnErr}
-use Rattle.zot_links.specs.Changes.{Keeps, Told}
+use Rattle.zot_outside.specs.Objects.{Told}
+use Rattle.zot_links.specs.Changes.{Keeps}
 use Rattle.zot_links.specs.Holding.{Releases}
 use Rattle.zot_links.specs.Meaning.{Links, StandsWhereTold}
 use Rattle.zot_contents.proofs.KeptLemmas.{both_moved, found_links, not_found, written_beside, written_here, written_only}

@@ -3,7 +3,8 @@ use Rattle.std.specs.Prelude.{IfSome, OnOk}
 use Rattle.zot_links.proofs.HoldLemmas.{err_so}
 use Rattle.zot_links.proofs.PartLemmas.{either, ok_so}
 use Rattle.zot_links.specs.Aims.{IsAimed}
-use Rattle.zot_links.specs.Changes.{Keeps, Sets, Told, with_held}
+use Rattle.zot_outside.specs.Objects.{Told}
+use Rattle.zot_links.specs.Changes.{Keeps, Sets, with_held}
 use Rattle.zot_links.specs.Meaning.{held}
 use Rattle.zot_contents.proofs.KeptLemmas.{both_moved, own_after}
 use Rattle.zot_contents.proofs.ShardLemmas.{attached, beside_all, kept_bytes, stand_alike, turned_stand, turned_tight}

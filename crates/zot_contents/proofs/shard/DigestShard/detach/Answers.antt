@@ -1,7 +1,8 @@
 use Rattle.std.proofs.Common.{sym, None}
 use Rattle.zot_links.proofs.HoldLemmas.{err_so}
 use Rattle.zot_links.proofs.LineLemmas.{on_ok}
-use Rattle.zot_links.specs.Changes.{Keeps, Told, with_held}
+use Rattle.zot_outside.specs.Objects.{Told}
+use Rattle.zot_links.specs.Changes.{Keeps, with_held}
 use Rattle.zot_links.specs.Holding.{Releases}
 use Rattle.zot_links.specs.Meaning.{held}
 use Rattle.zot_contents.proofs.KeptLemmas.{own_after}

@@ -1,6 +1,6 @@
 use Rattle.std.proofs.Common.{◌∙◌, ap, sym, subst}
 use Rattle.std.specs.Prelude.{option_map}
-use Rattle.zot_links.specs.Changes.{Told}
+use Rattle.zot_outside.specs.Objects.{Told}
 use Rattle.zot_links.specs.Meaning.{held}
 use Rattle.zot_contents.proofs.AnswerLemmas.{answered, attach_answers, detach_answers, holdings_answers, looked, looked_err, mount_answers, read_answers}
 use Rattle.zot_contents.specs.Pool.{MayAnswer, content_of, size_of}

@@ -1,19 +1,18 @@
-use Rattle.std.proofs.Common.{set, sym, subst, ◌∙◌}
+use Rattle.std.proofs.Common.{set, subst}
 use Rattle.std.specs.Result.{result_err}
-use Rattle.zot_links.specs.Changes.{Told}
+use Rattle.zot_outside.specs.Objects.{Told}
 use Rattle.zot_links.specs.Meaning.{held}
 use Rattle.zot_contents.specs.Pool.{AreSame, Gives, plain_mount, size_of}
 use Rattle.zot_contents.proofs.HolderLemmas.{mount_of_all, same_of_all}
-use Rattle.zot_pool.proofs.PoolLemmas.{both_hold, calls_cause, number_is, of_shard_within, pooled_each, pooled_err, set_beside, still_numbered, still_tight}
+use Rattle.zot_pool.proofs.PoolLemmas.{both_hold, calls_cause, is_its_own, of_shard_within, pooled_each, pooled_err, set_beside, still_numbered, still_tight}
 use Rattle.zot_pool.specs.Pools.{BothHold, ChangesOnly, HasPoolCause, faults_of, holds, objects_of}
 use Rattle.zot_pool.proofs.pool.Pool.mount.Goals as goal
 
 pub mount-requires : goal.mount-requires
 mount-requires g c =
     let xs = c.args.self.now.shards.items in
-    let x = c.index_mut-shard.result.now in
-    let within = of_shard_within xs c.shard_of.result c.args.digest.now c.args.self.now.numbered c.shard_of.ensures.digest in
-    (c.shard_of.ensures.digest.0, c.shard_of.ensures.digest.1 ∙ sym (number_is xs c.shard_of.result x x within c.index_mut-shard.ensures.value c.args.self.now.numbered))
+    is_its_own xs c.shard_of.result c.index_mut-shard.result.now c.index_mut-shard.result.now
+    (of_shard_within xs c.shard_of.result c.args.digest.now c.args.self.now.numbered c.shard_of.ensures.digest) c.index_mut-shard.ensures.value c.args.digest.now c.args.self.now.numbered c.shard_of.ensures.digest
 
 pub invariant_of-self : goal.invariant_of-self
 invariant_of-self g c =

@@ -1,16 +1,15 @@
-use Rattle.std.proofs.Common.{◌≡◌, IfSome, option_map, set, sym, subst, ◌∙◌}
+use Rattle.std.proofs.Common.{◌≡◌, IfSome, option_map, set, subst}
 use Rattle.std.specs.Result.{result_err}
 use Rattle.zot_links.specs.Meaning.{held}
-use Rattle.zot_pool.proofs.PoolLemmas.{number_is, objects_kept, of_shard_within, pooled_each, read_cause, read_held, read_tight, set_beside, still_numbered}
+use Rattle.zot_pool.proofs.PoolLemmas.{is_its_own, objects_kept, of_shard_within, pooled_each, read_cause, read_held, read_tight, set_beside, still_numbered}
 use Rattle.zot_pool.specs.Pools.{ChangesOnly, HasReadCause, faults_of, holds, objects_of}
 use Rattle.zot_pool.proofs.pool.Pool.read.Goals as goal
 
 pub read-requires : goal.read-requires
 read-requires g c =
     let xs = c.args.self.now.shards.items in
-    let x = c.index_mut-shard.result.now in
-    let within = of_shard_within xs c.shard_of.result c.args.digest.now c.args.self.now.numbered c.shard_of.ensures.digest in
-    (c.shard_of.ensures.digest.0, c.shard_of.ensures.digest.1 ∙ sym (number_is xs c.shard_of.result x x within c.index_mut-shard.ensures.value c.args.self.now.numbered))
+    is_its_own xs c.shard_of.result c.index_mut-shard.result.now c.index_mut-shard.result.now
+    (of_shard_within xs c.shard_of.result c.args.digest.now c.args.self.now.numbered c.shard_of.ensures.digest) c.index_mut-shard.ensures.value c.args.digest.now c.args.self.now.numbered c.shard_of.ensures.digest
 
 pub invariant_of-self : goal.invariant_of-self
 invariant_of-self g c =
