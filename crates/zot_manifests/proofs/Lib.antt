@@ -4,3 +4,4 @@ pub mod TagLemmas
 pub mod TableLemmas
 pub mod SetLemmas
 pub mod TagIndexLemmas
+pub mod BackLemmas

@@ -65,7 +65,7 @@ pub plain_empty : plain_manifests finite.empty ≡ finite.empty
 plain_empty = same_map byte_order (plain_manifests finite.empty) finite.empty (λ q. get_plain finite.empty q ∙ ap (option_map plain_manifest) (get-empty byte_cmp q) ∙ sym (get-empty byte_cmp q))
 
 -- what was under a digest before is there again
-pub put_back_is : (old mid : ByteMap Kept) (digest : List ℕ) (kept : Kept) (before : Option Kept) → mid ≡ finite.insert old digest kept → before ≡ finite.get old digest → put_back mid digest before ≡ old
+pub put_back_is : {X : Type 0} (old mid : ByteMap X) (digest : List ℕ) (kept : X) (before : Option X) → mid ≡ finite.insert old digest kept → before ≡ finite.get old digest → put_back mid digest before ≡ old
 put_back_is old mid digest kept None is was = same_by_key byte_order (finite.remove mid digest) old digest
     (removed_here byte_order mid digest ∙ was)
     (λ q apart. removed_elsewhere byte_order mid digest q apart ∙ ap (λ m. finite.get m q) is ∙ get_elsewhere byte_order old digest kept q apart)

@@ -57,7 +57,7 @@ lists_pulled old new sets tag moment (Some stored) was is all =
 
 -- ---- the tags of a manifest go
 
-get_without : (tags : ByteMap StoredTag) (digest q : List ℕ) → finite.get (without_tags_of tags digest) q ≡ cond (not (is_tag_of digest (finite.get tags q))) (finite.get tags q) None
+pub get_without : (tags : ByteMap StoredTag) (digest q : List ℕ) → finite.get (without_tags_of tags digest) q ≡ cond (not (is_tag_of digest (finite.get tags q))) (finite.get tags q) None
 get_without tags digest q =
     get-retain_keys tags (λ tag. not (is_tag_of digest (finite.get tags tag))) q (λ x same. ap (λ tag. not (is_tag_of digest (finite.get tags tag))) (sym (byte_order.antisymmetric q x same)))
 

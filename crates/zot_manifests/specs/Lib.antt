@@ -3,3 +3,4 @@ pub mod Codes
 pub mod Check
 pub mod Index
 pub mod Tags
+pub mod Replacing

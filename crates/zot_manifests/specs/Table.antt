@@ -42,10 +42,24 @@ with_manifest moment table digest tag media reading = record {
   tags = with_tag moment table.tags tag digest;
 }
 
--- the manifests in which what was there before is under a digest again
-abbrev pub put_back : ByteMap Kept → List ℕ → Option Kept → ByteMap Kept
-put_back manifests digest None = finite.remove manifests digest
-put_back manifests digest (Some kept) = finite.insert manifests digest kept
+-- a map in which what was there before is under a key again
+abbrev pub put_back : {X : Type 0} → ByteMap X → List ℕ → Option X → ByteMap X
+put_back map key None = finite.remove map key
+put_back map key (Some before) = finite.insert map key before
+
+-- the tags in which what was there before is under a text again, where there is one
+abbrev pub tag_back : ByteMap StoredTag → Option (List ℕ) → Option StoredTag → ByteMap StoredTag
+tag_back tags None before = tags
+tag_back tags (Some tag) before = put_back tags tag before
+
+-- the table in which what was there before is under a digest and a tag again
+abbrev pub taken_back : Table → List ℕ → Option Kept → Option (List ℕ) → Option StoredTag → Table
+taken_back table digest manifest tag entry = record { manifests = put_back table.manifests digest manifest; tags = tag_back table.tags tag entry }
+
+-- what is kept of a tag, where one is given
+abbrev pub tag_before : ByteMap StoredTag → Option (List ℕ) → Option StoredTag
+tag_before tags None = None
+tag_before tags (Some tag) = finite.get tags tag
 
 -- the table after a pull by a reference
 abbrev pub pulled : ℕ → Table → Reference → Table

@@ -51,6 +51,18 @@ impl TagEntry {
         self.pushed
     }
 
+    /// A second one that is equal to it.
+    pub fn copy(&self) -> TagEntry
+        ensures { result ≡ self.now }
+    {
+        TagEntry {
+            digest: self.digest,
+            pushed: self.pushed,
+            pulls: self.pulls,
+            pulled: self.pulled,
+        }
+    }
+
     /// Counts a pull at the moment; the count stands still at the greatest number of 64 bits.
     pub fn pull(&mut self, moment: u64)
         ensures { self.new ≡ pulled_at moment self.old }

@@ -6,7 +6,7 @@ ghost use Rattle.std.specs.BTreeMap.{is_at};
 ghost use Rattle.std.specs.BTreeSet.{contains};
 ghost use Rattle.zot_digest.specs.ByteMap.{byte_cmp, map_of};
 ghost use Rattle.zot_manifests.specs.Tags.{AreTags, after, kept_unless};
-ghost use Rattle.zot_model.specs.Manifests.{is_tag_of, with_pull};
+ghost use Rattle.zot_model.specs.Manifests.{is_tag_of, with_pull, without_tags_of};
 ghost use Rattle.zot_model.specs.Pages.{last_of, page};
 ghost use Rattle.zot_names.specs.Tag.{IsTag};
 
@@ -83,6 +83,17 @@ impl TagMap {
         Ok(())
     }
 
+    /// Sets a tag that is there. Takes no memory.
+    pub fn replace(&mut self, tag: &Tag, entry: TagEntry)
+        requires { IsTrue (finite.contains_key self.old tag.now) }
+        ensures { self.new ≡ finite.insert self.old tag.now entry }
+    {
+        match self.tree.get_mut(tag.words()) {
+            Some(old) => *old = entry,
+            None => unreachable!(),
+        }
+    }
+
     /// Removes a tag, and answers whether there was one; else nothing changes.
     pub fn remove(&mut self, tag: &Tag) -> bool
         ensures was { result ≡ finite.contains_key self.old tag.now }
@@ -99,6 +110,13 @@ impl TagMap {
         for text in texts {
             self.remove_from(text, digest);
         }
+    }
+
+    /// Removes the tags of a manifest, by a look at all tags.
+    pub fn remove_of(&mut self, digest: &Digest)
+        ensures { self.new ≡ without_tags_of self.old digest.now }
+    {
+        self.tree.retain(|_, entry| entry.digest() != *digest);
     }
 
     // The same of one text.

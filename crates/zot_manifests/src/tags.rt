@@ -1,8 +1,9 @@
 //! The tags of a repository, with an index of what they are set to.
-ghost use Rattle.std.specs.Prelude.{◌≡◌, OnErr, OnOk, false};
+ghost use Rattle.std.specs.Prelude.{◌≡◌, IsTrue, OnErr, OnOk, false, true};
 ghost use Rattle.std.specs.FinMap as finite;
 ghost use Rattle.zot_digest.specs.ByteMap.{byte_cmp};
-ghost use Rattle.zot_manifests.specs.Index.{Removes};
+ghost use Rattle.zot_manifests.specs.Index.{KeepsAll, Removes, has};
+ghost use Rattle.zot_manifests.specs.Table.{put_back};
 ghost use Rattle.zot_manifests.specs.Tags.{is_moved_from};
 ghost use Rattle.zot_model.specs.Manifests.{is_tag_of, with_pull, without_tags_of};
 
@@ -19,9 +20,12 @@ use zot_names::Tag;
 pub struct Tags {
     map: TagMap,
     index: Index<Words>,
+    // Whether each tag is listed. It isn't where memory ran out while one was put back.
+    listed: bool,
 }
 
 impl Model for Tags {
+    ghost use Rattle.std.specs.Prelude.{◌≡◌, true};
     ghost use Rattle.zot_digest.specs.ByteMap.{ByteMap};
     ghost use Rattle.zot_manifests.specs.Codes.{tags_code};
     ghost use Rattle.zot_manifests.specs.Tags.{ListsTags};
@@ -33,7 +37,7 @@ impl Model for Tags {
 
     ghost view = { λ t. t.map };
 
-    ghost invariant = { λ t. ListsTags t.map t.index.sets };
+    ghost invariant = { λ t. t.listed ≡ true → ListsTags t.map t.index.sets };
 }
 
 impl Tags {
@@ -44,6 +48,7 @@ impl Tags {
         Tags {
             map: TagMap::new(alloc),
             index: Index::new(alloc),
+            listed: true,
         }
     }
 
@@ -75,10 +80,38 @@ impl Tags {
         self.map.remove(tag)
     }
 
-    /// Removes the tags of a manifest. It looks at those alone that are listed under its digest.
+    /// Puts back what was kept of a tag, where there is one now. Where memory runs out, tags aren't listed any more.
+    pub fn put_back(&mut self, alloc: Global, tag: &Tag, before: Option<TagEntry>)
+        requires { IsTrue (finite.contains_key self.old tag.now) }
+        ensures { self.new ≡ put_back self.old tag.now before }
+    {
+        match before {
+            Some(entry) => self.set_again(alloc, tag, entry),
+            None => {
+                let _ = self.remove(tag);
+            }
+        }
+    }
+
+    // Sets a tag that is there.
+    fn set_again(&mut self, alloc: Global, tag: &Tag, entry: TagEntry)
+        requires { IsTrue (finite.contains_key self.old tag.now) }
+        ensures { self.new ≡ finite.insert self.old tag.now entry }
+    {
+        unlist_tag(&self.map, &mut self.index, tag);
+        let listed = list_again(&mut self.index, alloc, tag, &entry.digest());
+        self.listed = self.listed && listed;
+        self.map.replace(tag, entry);
+    }
+
+    /// Removes the tags of a manifest. It looks at those alone that are listed under its digest, or at all where tags aren't listed.
     pub fn remove_of(&mut self, digest: &Digest)
         ensures { self.new ≡ without_tags_of self.old digest.now }
     {
+        if !self.listed {
+            self.map.remove_of(digest);
+            return;
+        }
         if let Some(texts) = self.index.take(digest) {
             self.map.remove_each(&texts, digest);
         }
@@ -89,6 +122,17 @@ impl Tags {
         ensures { self.new ≡ with_pull moment self.old tag.now (finite.get self.old tag.now) }
     {
         self.map.pull(tag, moment);
+    }
+}
+
+// Lists a tag under a manifest, and answers whether there was memory for it. What was listed is listed still.
+fn list_again(index: &mut Index<Words>, alloc: Global, tag: &Tag, digest: &Digest) -> bool
+    ensures keeps { KeepsAll byte_cmp index.old.sets index.new.sets }
+    ensures listed { result ≡ true → has byte_cmp index.new.sets digest.now tag.now ≡ true }
+{
+    match tag.words().copy(alloc) {
+        Ok(text) => index.list(alloc, *digest, text).is_ok(),
+        Err(_) => false,
     }
 }
 

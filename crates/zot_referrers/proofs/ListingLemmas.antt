@@ -23,7 +23,7 @@ use Rattle.zot_referrers.proofs.WalkLemmas.{SameFound, has, walks_alike}
 -- ---- the list from scratch
 
 module _ (sizes : List ℕ → Option ℕ) (manifests : ByteMap Kept) (subject : List ℕ) (wanted : Option (List ℕ)) where
-  abbrev Found : List ℕ → List Referrer
+  abbrev pub Found : List ℕ → List Referrer
   Found digest = found_in sizes manifests subject wanted digest
 
   abbrev pushed_of : List ℕ × Kept → Pushed
@@ -41,7 +41,8 @@ module _ (sizes : List ℕ → Option ℕ) (manifests : ByteMap Kept) (subject :
       ∙ ap (λ rest. listed_as subject wanted (pushed_of e) ++ rest) (among es h.1)
       ∙ chosen (is_listed subject wanted e.1.reading) (pushed_of e) (filter (λ pushed. is_listed subject wanted pushed.reading) (map pushed_of es))
 
-  from_scratch : flat_map Found (finite.keys manifests) ≡ referrers_among (all_pushed sizes manifests) subject wanted
+  -- a walk over all manifests gives the list from scratch
+  pub from_scratch : flat_map Found (finite.keys manifests) ≡ referrers_among (all_pushed sizes manifests) subject wanted
   from_scratch = among (finite.entries manifests) (all_found byte_order (finite.entries manifests) (keys_ordered byte_cmp manifests))
 
   -- ---- what is listed under the subject

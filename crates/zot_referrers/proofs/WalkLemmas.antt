@@ -117,3 +117,13 @@ pub made_more : {R D : Type 0} (makes : R → D) (found : List ℕ → List R) (
     → next ≡ so_far ++ map makes (found digest) → next ≡ map makes (flat_map found (digests ++ digest ∷ []))
 made_more makes found digests digest so_far next is more =
     more ∙ ap (λ xs. xs ++ map makes (found digest)) is ∙ sym (map-append makes (flat_map found digests) (found digest)) ∙ ap (map makes) (sym (walk_more found digests digest))
+
+-- what was made of a walk so far, with what is left, is all: also after one digest more
+pub made_next : {R D : Type 0} (makes : R → D) (found : List ℕ → List R) (digest : List ℕ) (rest : List (List ℕ)) (whole so_far next : List D) → whole ≡ so_far ++ map makes (flat_map found (digest ∷ rest))
+    → next ≡ so_far ++ map makes (found digest) → whole ≡ next ++ map makes (flat_map found rest)
+made_next makes found digest rest whole so_far next all more =
+    all ∙ ap (λ xs. so_far ++ xs) (map-append makes (found digest) (flat_map found rest)) ∙ sym (append_assoc so_far (map makes (found digest)) (map makes (flat_map found rest)))
+    ∙ ap (λ xs. xs ++ map makes (flat_map found rest)) (sym more)
+
+pub made_all : {R D : Type 0} (makes : R → D) (found : List ℕ → List R) (whole so_far : List D) → whole ≡ so_far ++ map makes (flat_map found []) → whole ≡ so_far
+made_all makes found whole so_far all = all ∙ append-nil so_far

@@ -122,8 +122,8 @@ fn descriptors<H: Held>(
     Ok(descriptors)
 }
 
-// Adds the descriptor of what is kept under a digest, if it says something of the subject and has the artifact type, if one is wanted.
-fn add_found<H: Held>(
+/// Adds the descriptor of what is kept under a digest, if it says something of the subject and has the artifact type, if one is wanted.
+pub fn add_found<H: Held>(
     alloc: Global,
     descriptors: &mut Vec<Value>,
     manifests: &Manifests,

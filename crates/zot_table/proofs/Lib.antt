@@ -9,3 +9,5 @@ pub mod StepLemmas
 pub mod ChangeLemmas
 pub mod LeavingLemmas
 pub mod SinceLemmas
+pub mod PutLemmas
+pub mod OpeningLemmas

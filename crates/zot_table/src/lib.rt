@@ -5,16 +5,20 @@
 //! `unread(alloc)?` lists those that are left, and `learn(alloc, &digest, bytes)?` reads one.
 #![tactic(auto)]
 
+mod before;
 mod blob_entry;
 mod blobs;
 mod found_entry;
 mod indexing;
 mod manifests;
+mod opening;
+mod putting;
 mod reading;
 mod repository;
 mod slot_map;
 mod uploads;
 
+pub use crate::before::Before;
 pub use crate::blob_entry::BlobEntry;
 pub use crate::found_entry::FoundEntry;
 pub use crate::repository::Repository;

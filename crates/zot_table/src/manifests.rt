@@ -14,6 +14,7 @@ use std::alloc::{AllocError, Global};
 use zot_digest::Digest;
 use zot_manifests::{CheckError, Checked, Held, Page};
 use zot_media::{Media, Reference};
+use zot_referrers::text_of_all;
 
 impl Repository {
     /// The manifest that a reference finds, where its blob is there. Takes no memory.
@@ -105,7 +106,7 @@ impl Repository {
         self.manifests.page(alloc, n, last)
     }
 
-    /// The text of the list of the manifests that say something of a digest, by what is kept of them, those alone of an artifact type where one is given. It fails only where memory runs out, or did while a manifest was put back.
+    /// The text of the list of the manifests that say something of a digest, by what is kept of them, those alone of an artifact type where one is given. It looks at those alone that are listed under the digest, or at all where they aren't listed, and fails only where memory runs out.
     pub fn referrers(
         &self,
         alloc: Global,
@@ -116,7 +117,7 @@ impl Repository {
             ≡ referrers_text (all_pushed (size_at self.now.slots) self.now.table.manifests) subject.now (option_map (λ text. text.now) wanted.entry)) }
     {
         if !self.listed {
-            return Err(AllocError);
+            return text_of_all(alloc, &self.manifests, &self.blobs, subject, wanted);
         }
         self.subjects
             .text(alloc, &self.manifests, &self.blobs, subject, wanted)

@@ -43,7 +43,7 @@ impl Repository {
             digest,
             bytes,
         )?;
-        self.blobs.mark_read(digest);
+        self.blobs.mark(digest, false);
         Ok(())
     }
 }

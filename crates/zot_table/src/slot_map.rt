@@ -1,7 +1,8 @@
 //! What is kept of a repository's blobs.
 ghost use Rattle.std.specs.Prelude.{◌≡◌, ◌↔◌, IsSome, IsTrue, OnErr, OnOk, Some, option_copied};
 ghost use Rattle.std.specs.FinMap as map;
-ghost use Rattle.zot_table.specs.Changes.{read_by, reserved_by, settled_by};
+ghost use Rattle.zot_table.specs.Changes.{reserved_by, settled_by};
+ghost use Rattle.zot_table.specs.Putting.{marked_by};
 ghost use Rattle.zot_table.specs.Tables.{entry_at, is_unread, size_at};
 
 use crate::blob_entry::BlobEntry;
@@ -112,9 +113,9 @@ impl SlotMap {
         }
     }
 
-    /// Says of the blob of a digest that its bytes were read. Takes no memory.
-    pub fn mark_read(&mut self, digest: &Digest)
-        ensures { self.new ≡ read_by self.old digest.now (map.get self.old digest.now) }
+    /// Says of the blob of a digest, where there is one, whether its bytes are to be read. Takes no memory.
+    pub fn mark(&mut self, digest: &Digest, unread: bool)
+        ensures { self.new ≡ marked_by unread self.old digest.now (map.get self.old digest.now) }
     {
         let Some(entry) = self.entry(digest) else {
             return;
@@ -124,7 +125,7 @@ impl SlotMap {
             BlobEntry {
                 size: entry.size,
                 arrived: entry.arrived,
-                unread: false,
+                unread,
             },
         );
     }

@@ -10,9 +10,9 @@ pub put_tag-requires : goal.put_tag-requires
 put_tag-requires c = insert_has c.self.inside.manifests c.set.new.self c.args.checked.digest _ c.in_ok-before.ensures.ok
 
 pub invariant_of-self-2 : goal.invariant_of-self-2
-invariant_of-self-2 c =
+invariant_of-self-2 c = λ on.
     lists_put _ _ c.put_tag.result c.self.inside.manifests c.set.new.self c.put_tag.new.manifests c.self.inside.index.sets c.list_references.new.self.sets c.args.checked.digest _ c.in_ok-before.before
-    c.put_tag.ensures.ok c.put_tag.ensures.err c.in_ok-before.ensures.ok c.in_ok-before.ensures.old c.self.invariant c.in_ok-list_references.ensures.ok
+    c.put_tag.ensures.ok c.put_tag.ensures.err c.in_ok-before.ensures.ok c.in_ok-before.ensures.old (c.self.invariant on) c.in_ok-list_references.ensures.ok
 
 pub returns-clause-err : goal.returns-clause-err
 returns-clause-err c =

@@ -3,4 +3,4 @@ use Rattle.zot_manifests.proofs.TagIndexLemmas.{names}
 use Rattle.zot_manifests.proofs.tags.Tags.new.Goals as goal
 
 pub invariant_of-result : goal.invariant_of-result
-invariant_of-result c = lists_none names c.new.result c.new-2.result.sets c.new.ensures
+invariant_of-result c = λ _. lists_none names c.new.result c.new-2.result.sets c.new.ensures
