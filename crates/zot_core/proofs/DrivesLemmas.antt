@@ -22,11 +22,12 @@ use Rattle.zot_outside.specs.Objects.{Objects}
 use Rattle.zot_outside.specs.declared.stores.store.Store.{Ghosts}
 use Rattle.zot_pool.specs.Pools.{BothHold, faults_of, holds, objects_of}
 use Rattle.zot_row.specs.Stages.{pending}
+use Rattle.zot_row.specs.Turns.{Counts}
 use Rattle.zot_core.proofs.AskLemmas.{both_each, both_itself, both_then, if_some_at, if_some_by, rose_since, some_and_at}
 use Rattle.zot_core.proofs.DriveLemmas.{led_on}
-use Rattle.zot_core.specs.RowGoing.{BeginsRow, FitsNext, GoesOnRow, GoesRow, HasCause, HasCauseAfter, IsForCall, IsOnOwn, IsOwn, KeepsBeside, OnDone, OnName, Rests, entry_for, pending_of}
+use Rattle.zot_core.specs.RowGoing.{BeginsRow, FitsNext, GoesOnRow, GoesRow, HasCause, HasCauseAfter, IsForCall, IsOnOwn, IsOwn, KeepsBeside, OnDone, OnName, Rests, pending_of}
 use Rattle.zot_core.specs.Rows.{AgreesRow, NoneFresh, Tables, state_of}
-use Rattle.zot_core.specs.Shards.{AnswersAsked, Asked, Drives, HasAnswerCause, HasCauseSoFar, IsTaken, IsUnfailed, KeepsOtherNames, Led, StepsRow}
+use Rattle.zot_core.specs.Shards.{AnswersAsked, Asked, Drives, HasAnswerCause, HasCauseSoFar, IsCounted, IsTaken, IsUnfailed, KeepsOtherNames, Led, StepsRow}
 use Rattle.zot_core.specs.declared.row_config.RowConfig.{RowConfig}
 use Rattle.zot_core.specs.declared.row_core.RowCore.{RowCore}
 use Rattle.zot_core.specs.declared.row_next.RowNext.{RowNext}
@@ -62,6 +63,24 @@ cause_then answered (nexts.Done (answers.Reply reply)) before since after pooled
   by (inr is) = inr (rose_since pooled mid later grew (rose is))
 cause_then answered (nexts.Pool asked) before since after pooled mid later stayed grew rose h = h ∙ stayed
 
+-- what was counted so far, and one answer more
+rose_until : (pooled mid later : ℕ) → mid ≤ later → Rose pooled mid → Rose pooled later
+rose_until pooled mid later grew rose = omega (arith, grew, rose)
+
+counted_on : (failed fails counts pooled mid later : ℕ) → mid ≤ later → counts ≡ fails → IsCounted failed fails pooled mid → IsCounted failed counts pooled later
+counted_on failed fails counts pooled mid later grew is (inl same) = inl (is ∙ same)
+counted_on failed fails counts pooled mid later grew is (inr rose) = inr (rose_until pooled mid later grew rose)
+
+counted_then : (answered : PoolReply) (failed fails counts pooled mid later : ℕ) → pooled ≤ mid → mid ≤ later → IsCounted failed fails pooled mid → Counts answered fails counts → (answered ≡ replies.Failed → Rose mid later) → IsCounted failed counts pooled later
+counted_then replies.Done failed fails counts pooled mid later before grew so is rose = counted_on failed fails counts pooled mid later grew is so
+counted_then (replies.Held list) failed fails counts pooled mid later before grew so is rose = counted_on failed fails counts pooled mid later grew is so
+counted_then (replies.Size size) failed fails counts pooled mid later before grew so is rose = counted_on failed fails counts pooled mid later grew is so
+counted_then (replies.Content bytes) failed fails counts pooled mid later before grew so is rose = counted_on failed fails counts pooled mid later grew is so
+counted_then replies.Nothing failed fails counts pooled mid later before grew so is rose = counted_on failed fails counts pooled mid later grew is so
+counted_then (replies.Removed was) failed fails counts pooled mid later before grew so is rose = counted_on failed fails counts pooled mid later grew is so
+counted_then replies.Failed failed fails counts pooled mid later before grew so is rose = inr (rose_since pooled mid later before (rose refl))
+counted_then replies.NoMemory failed fails counts pooled mid later before grew so is rose = counted_on failed fails counts pooled mid later grew is so
+
 -- ---- the call begins
 
 taken_none : (call : RowCall) (held : Holders) → IsTaken call held None
@@ -85,6 +104,7 @@ module _ {S : Type 0} {G : Ghosts S} (old : RowCore S G) (failed : ℕ) (before 
     names = names;
     cause = cause_first next (G.faults old.part) (G.faults new.part) (sum (faults_of before)) cause;
     later = omega arith;
+    counted = inl refl;
     tight = λ _ h. h;
     dedupe = λ h. h;
     row = row;
@@ -128,6 +148,7 @@ module _ {S : Type 0} {G : Ghosts S} (old : RowCore S G) (failed : ℕ) (before 
       names = names;
       cause = cause_then answered next (G.faults old.part) (G.faults mid.part) (G.faults new.part) (sum (faults_of before)) (sum (faults_of since)) (sum (faults_of after)) d.cause d.later a.rose cause;
       later = later_then (sum (faults_of before)) (sum (faults_of since)) (sum (faults_of after)) d.later a.later;
+      counted = counted_then answered failed fails later (sum (faults_of before)) (sum (faults_of since)) (sum (faults_of after)) d.later a.later d.counted a.counts a.rose;
       tight = λ deduped tight. a.tight (d.dedupe deduped) (d.tight deduped tight);
       dedupe = λ deduped. a.dedupe (d.dedupe deduped);
       row = row ∙ d.row;

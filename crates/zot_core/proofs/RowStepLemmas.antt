@@ -6,7 +6,7 @@ use Rattle.zot_contents.specs.Pool.{Holders}
 use Rattle.zot_contents.specs.declared.pool_reply.PoolReply.{PoolReply}
 use Rattle.zot_history.proofs.Runs.{run_one}
 use Rattle.zot_model.proofs.HistoryLemmas.{same_alike}
-use Rattle.zot_model.specs.History.{Happens, Run, Step}
+use Rattle.zot_model.specs.History.{Happens, Run, Step, entry_by}
 use Rattle.zot_model.specs.Mounts.{TakesOver}
 use Rattle.zot_model.specs.Plain.{Goes as GoesPlain, MayAnswer, Stay}
 use Rattle.zot_model.specs.Refusals.{no_memory, storage_fault}
@@ -20,7 +20,7 @@ use Rattle.zot_model.specs.declared.row.RowReply.TheVariants as answers
 use Rattle.zot_core.proofs.RowLemmas.{agrees_then, becomes_then, others_stay}
 use Rattle.zot_row.specs.Doing.{Doing}
 use Rattle.zot_row.specs.Going.{AsksToMount, FitsTurn, Goes, HasNextCause, HasTurnCause}
-use Rattle.zot_core.specs.RowGoing.{AsksNextToMount, FitsNext, GoesRow, HasCause, HasCauseAfter, Rests, entry_by, next_of, pending_of, waiting_of}
+use Rattle.zot_core.specs.RowGoing.{AsksNextToMount, FitsNext, GoesRow, HasCause, HasCauseAfter, Rests, next_of, pending_of, waiting_of}
 use Rattle.zot_core.specs.Rows.{AgreesRow, SetsTable, Tables, state_of, table_at, under}
 use Rattle.zot_row.specs.Stages.{pending}
 use Rattle.zot_row.specs.Turns.{Ends, EndsPlainly}

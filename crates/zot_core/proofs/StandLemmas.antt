@@ -4,9 +4,9 @@ use Rattle.std.specs.Prelude.{IfSome}
 use Rattle.zot_contents.specs.Pool.{Holders}
 use Rattle.zot_layout.proofs.StandsLemmas.{stands_alike}
 use Rattle.zot_layout.specs.Stands.{AreAlike, StandsFor, StandsForRow}
-use Rattle.zot_layout.specs.Writing.{StandsWhereTold, Told}
+use Rattle.zot_layout.specs.Writing.{StandsWhereTold}
 use Rattle.zot_model.specs.State.{RepoState, repo_at}
-use Rattle.zot_outside.specs.Objects.{Objects}
+use Rattle.zot_outside.specs.Objects.{Objects, Told}
 use Rattle.zot_core.proofs.RowLemmas.{repo_is, table_beside}
 use Rattle.zot_row.specs.Going.{KeepsOthers, KeepsStanding, LeavesOthers, kept_of}
 use Rattle.zot_core.specs.RowGoing.{KeepsBeside, StandsForTables}

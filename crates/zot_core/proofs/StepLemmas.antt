@@ -3,7 +3,7 @@ use Rattle.std.proofs.Common.{◌≡◌, ◌≢◌, ◌⊎◌, ◌+◌, inl, inr
 use Rattle.std.specs.Prelude.{IsSomeAnd}
 use Rattle.zot_contents.specs.Pool.{Holders}
 use Rattle.zot_layout.specs.Rows.{IsOfRow}
-use Rattle.zot_model.specs.History.{Run, Step}
+use Rattle.zot_model.specs.History.{Run, Step, entry_for}
 use Rattle.zot_model.specs.Plain.{MayAnswer}
 use Rattle.zot_model.specs.Refusals.{storage_fault}
 use Rattle.zot_model.specs.State.{AreSame, RowState}
@@ -17,7 +17,6 @@ use Rattle.zot_table.proofs.StandingLemmas.{same_agrees}
 use Rattle.zot_table.specs.Standing.{Agrees, AreEqual}
 use Rattle.zot_core.proofs.DrivesLemmas.{some_of}
 use Rattle.zot_core.proofs.RowLemmas.{repo_is, repo_stays, under_same}
-use Rattle.zot_core.specs.RowGoing.{entry_for}
 use Rattle.zot_core.specs.Rows.{AgreesRow, Tables, state_of, table_at, under}
 use Rattle.zot_core.specs.Shards.{HasAnswerCause, IsUnfailed, KeepsOtherNames, Led, StepsRow}
 use Rattle.zot_core.specs.declared.row_next.RowNext.TheVariants as nexts

@@ -2,3 +2,4 @@ pub mod Rows
 pub mod RowGoing
 pub mod StandProps
 pub mod Shards
+pub mod Answering

@@ -6,9 +6,9 @@ use Rattle.zot_contents.specs.declared.pool_call.PoolCall.{PoolCall}
 use Rattle.zot_contents.specs.declared.pool_call.PoolCall.TheVariants as pool
 use Rattle.zot_contents.specs.declared.pool_reply.PoolReply.{PoolReply}
 use Rattle.zot_layout.specs.Rows.{IsOfRow}
-use Rattle.zot_layout.specs.Writing.{KeepsElsewhere, StandsWhereTold, Told}
+use Rattle.zot_layout.specs.Writing.{KeepsElsewhere, StandsWhereTold}
 use Rattle.zot_model.specs.Fits.{IsFitting}
-use Rattle.zot_model.specs.History.{Entry, Run, entry_of, mount_entry}
+use Rattle.zot_model.specs.History.{Run, entry_for}
 use Rattle.zot_model.specs.Mounts.{Asks as AsksMount}
 use Rattle.zot_model.specs.Plain.{Stay}
 use Rattle.zot_model.specs.Refusals.{no_memory, storage_fault}
@@ -19,7 +19,7 @@ use Rattle.zot_model.specs.declared.row.RowCall.{RowCall}
 use Rattle.zot_model.specs.declared.row.RowCall.TheVariants.{Ask}
 use Rattle.zot_model.specs.declared.row.RowReply.{RowReply}
 use Rattle.zot_model.specs.declared.row.RowReply.TheVariants as answers
-use Rattle.zot_outside.specs.Objects.{Objects}
+use Rattle.zot_outside.specs.Objects.{Objects, Told}
 use Rattle.zot_siphash.specs.Owners as owners
 use Rattle.zot_siphash.specs.SipHash.{siphash}
 use Rattle.zot_row.specs.Doing.{Doing}
@@ -53,14 +53,6 @@ abbrev pub OnName : RowCall → (List ℕ → Type 0) → Type 0
 OnName (Ask request) P = IfSome request.name P
 
 -- ---- the answer and the plain row
-
--- the entry of a call and its answer, where it was given these bytes, if any, of another repository
-abbrev pub entry_by : Request → Reply → Option (List ℕ) → ℕ → ℕ → Entry
-entry_by request reply None moment faults = entry_of request reply moment faults
-entry_by request reply (Some bytes) moment faults = mount_entry request reply bytes moment faults
-
-abbrev pub entry_for : RowCall → RowReply → Option (List ℕ) → ℕ → ℕ → Entry
-entry_for (Ask request) (answers.Reply reply) taken moment faults = entry_by request reply taken moment faults
 
 -- a request waits for an answer to what was asked, and began with this row: its repository is as that stage says, and all others are as they were
 pub record Waits (waiting : Waiting) (old : RowState) (request : Request) (asked : PoolCall) (tables : Tables) (held : Holders) (faults : ℕ) : Type 0 where

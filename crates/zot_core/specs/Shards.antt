@@ -8,7 +8,7 @@ use Rattle.zot_contents.specs.declared.pool_reply.PoolReply.{PoolReply}
 use Rattle.zot_contents.specs.declared.pool_reply.PoolReply.TheVariants as replies
 use Rattle.zot_contents.specs.declared.shard.DigestShard.{DigestShard}
 use Rattle.zot_digest.specs.Digest.{IsDigest}
-use Rattle.zot_model.specs.History.{Run}
+use Rattle.zot_model.specs.History.{Run, entry_for}
 use Rattle.zot_model.specs.Mounts.{Asks as AsksMount}
 use Rattle.zot_model.specs.Refusals.{storage_fault}
 use Rattle.zot_model.specs.State.{RowState}
@@ -22,7 +22,7 @@ use Rattle.zot_outside.specs.Faults.{Rose}
 use Rattle.zot_outside.specs.declared.stores.store.Store.{Ghosts}
 use Rattle.zot_pool.specs.Pools.{AreDeduped, AreTightPool, BothHold, faults_of, holds, objects_of}
 use Rattle.zot_row.specs.Turns.{Counts, given}
-use Rattle.zot_core.specs.RowGoing.{FitsNext, GoesRow, IsOwn, KeepsBeside, OnDone, OnName, Rests, entry_for, pending_of}
+use Rattle.zot_core.specs.RowGoing.{BeginsRow, FitsNext, GoesRow, HasCause, IsOwn, KeepsBeside, MountsNext, OnDone, OnName, Rests, pending_of}
 use Rattle.zot_core.specs.Rows.{AgreesRow, NoneFresh, Tables, TakesRow, state_of, under}
 use Rattle.zot_core.specs.declared.row_core.RowCore.{RowCore}
 use Rattle.zot_core.specs.declared.row_next.RowNext.{RowNext}
@@ -65,6 +65,10 @@ HasAnswerCause (answers.Reply reply) before after pooled later = HasShardCause r
 abbrev pub IsUnfailed : RowReply → Type 0
 IsUnfailed (answers.Reply reply) = reply ≢ storage_fault
 
+-- no answer was that a shard failed; or the count of all of the pool's parts rose
+abbrev pub IsCounted : ℕ → ℕ → ℕ → ℕ → Type 0
+IsCounted failed fails pooled later = (fails ≡ failed) ⊎ Rose pooled later
+
 -- ---- what the pool is asked
 
 -- a call is answered so: the row of the repository that it is on sees what it asked for, every other repository holds what it held, and a mount is given what the named one held
@@ -80,6 +84,21 @@ pub record Asked {S : Type 0} {G : Ghosts S} (old : List (DigestShard S G)) (fai
   pub later : sum (faults_of old) ≤ sum (faults_of new)
   pub tight : AreDeduped old → AreTightPool old → AreTightPool new
   pub dedupe : AreDeduped old → AreDeduped new
+
+-- ---- a call begins
+
+-- a call on a repository of the row begins so, at a moment
+pub record BeginsCall {S : Type 0} {G : Ghosts S} (old : RowCore S G) (call : RowCall) (moment : ℕ) (next : RowNext) (new : RowCore S G) : Type 0 where
+  pub answer : BeginsRow (IsOwn old.config old.row) call moment old.repos (G.faults old.part) next new.waiting new.repos (G.faults new.part)
+  pub idle : OnName call (λ name. Rests next name moment new.waiting)
+  pub faults : HasCause next (G.faults old.part) (G.faults new.part)
+  pub fits : FitsNext call next new.waiting
+  pub mount : MountsNext call next
+  pub beside : OnName call (λ name. KeepsBeside (G.objects old.part) name (G.objects new.part))
+  pub names : OnDone next (NoneFresh None new.repos)
+  pub row : new.row ≡ old.row
+  pub config : new.config ≡ old.config
+  pub opened : new.opened ≡ old.opened
 
 -- ---- a call in progress
 
@@ -109,6 +128,7 @@ pub record Drives {S : Type 0} {G : Ghosts S} (old : RowCore S G) (failed : ℕ)
   pub names : OnDone next (NoneFresh None new.repos)
   pub cause : HasCauseSoFar next (G.faults old.part) (G.faults new.part) (sum (faults_of before)) (sum (faults_of after))
   pub later : sum (faults_of before) ≤ sum (faults_of after)
+  pub counted : IsCounted failed fails (sum (faults_of before)) (sum (faults_of after))
   pub tight : AreDeduped before → AreTightPool before → AreTightPool after
   pub dedupe : AreDeduped before → AreDeduped after
   pub row : new.row ≡ old.row

@@ -5,7 +5,9 @@
 //! `RepoShard` is the row with a pool: `step(pool, alloc, &call, moment)` answers a call.
 #![tactic(auto)]
 
+mod answering;
 mod asking;
+mod beginning;
 mod driving;
 mod laws;
 mod repos;
