@@ -3,3 +3,7 @@ pub mod PartLemmas
 pub mod QuietLemmas
 pub mod StartLemmas
 pub mod ResumeLemmas
+pub mod UploadLemmas
+pub mod AttachLemmas
+pub mod PostLemmas
+pub mod MountLemmas

@@ -3,7 +3,6 @@ use Rattle.std.proofs.Common.{◌≡◌, ◌≢◌, ◌⊎◌, ◌≤◌, inl, i
 use Rattle.std.specs.Prelude.{Result, Ok, Err}
 use Rattle.zot_contents.specs.declared.pool_call.PoolCall.TheVariants as pool
 use Rattle.zot_layout.specs.Stands.{AreAlike}
-use Rattle.zot_model.specs.Mounts.{Asks}
 use Rattle.zot_model.specs.Refusals.{no_memory, storage_fault}
 use Rattle.zot_model.specs.State.{RepoState, made_known}
 use Rattle.zot_model.specs.declared.call.Call.{Call}
@@ -17,7 +16,7 @@ use Rattle.zot_row.proofs.EndLemmas.{in_want, refused_ends}
 use Rattle.zot_row.proofs.PartLemmas.{quiet_stands, stands_then}
 use Rattle.zot_row.proofs.QuietLemmas.{fault_fits, memory_fits}
 use Rattle.zot_row.specs.Doing.{EndsWith}
-use Rattle.zot_row.specs.Going.{AsksToAttach, AsksToMount, FitsTurn, HasPartCause, KeepsOthers, KeepsStanding, Starts, kept_of}
+use Rattle.zot_row.specs.Going.{AsksToAttach, AsksToMount, FitsTurn, HasPartCause, KeepsOthers, KeepsStanding, NeverMounts, Starts, kept_of}
 use Rattle.zot_row.specs.Refusals.{store_refusal}
 use Rattle.zot_row.specs.Stages.{Attaches}
 use Rattle.zot_row.specs.declared.stage.Attaching.{Attaching}
@@ -68,9 +67,17 @@ refused_starts call moment name old objects later before after error named cause
   mount = λ digest from asks. refusal_mounts error name from digest;
 }
 
+-- the same, by what the calls before it promised
+pub refused_after : {T : Type 0} (call : Call) (moment : ℕ) (name : List ℕ) (old new : RepoTable) (objects later : Option Objects) (before after : ℕ) (error : StoreError) (reply : Reply) → call ≢ calls.Base → reply ≡ store_refusal error → new ≡ old
+    → HasStoreCause {T = T} before after (Err error) → KeepsStanding objects name old later new → KeepsOthers objects name old later → Starts call moment name old objects before (turns.Done reply) new later after
+refused_after {T} call moment name old new objects later before after error reply named is same cause stands beside =
+    subst (λ (r : Reply). Starts call moment name old objects before (turns.Done r) new later after) (sym is)
+    (subst (λ (t : RepoTable). Starts call moment name old objects before (turns.Done (store_refusal error)) t later after) (sym same)
+    (refused_starts {T = T} call moment name old objects later before after error named cause (subst (λ (t : RepoTable). KeepsStanding objects name old later t) same stands) beside))
+
 -- ---- bytes that are to be held
 
-module _ (call : Call) (moment : ℕ) (name : List ℕ) (old : RepoTable) (objects later : Option Objects) (before after : ℕ) (named : call ≢ calls.Base) (never : (digest from : List ℕ) → Asks call digest from → ⊥) (stay : after ≡ before)
+module _ (call : Call) (moment : ℕ) (name : List ℕ) (old : RepoTable) (objects later : Option Objects) (before after : ℕ) (named : call ≢ calls.Base) (never : NeverMounts call) (stay : after ≡ before)
     (stands : KeepsStanding objects name old later (known_as true old)) (beside : KeepsOthers objects name old later) where
   -- memory ran out behind it
   pub known_want : Starts call moment name old objects before (turns.Done no_memory) (known_as true old) later after
