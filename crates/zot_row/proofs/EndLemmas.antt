@@ -117,9 +117,9 @@ counts_stay (replies.Removed was) failed fails isnt h = h
 counts_stay replies.Failed failed fails isnt h = absurd (isnt refl)
 counts_stay replies.NoMemory failed fails isnt h = h
 
--- one more makes more of both
-pub rise_pool : (faults failed fails : ℕ) → fails ≡ failed + 1 → Rise (faults + failed) (faults + fails)
-rise_pool faults failed fails h = record { later = omega arith; rose = omega arith }
+-- more of one makes more of both
+pub rise_pool : (faults failed fails : ℕ) → Rise failed fails → Rise (faults + failed) (faults + fails)
+rise_pool faults failed fails h = let later = h.later in let rose = h.rose in record { later = omega arith; rose = omega arith }
 
 pub rise_part : (before after failed : ℕ) → before ≤ after → Rose before after → Rise (before + failed) (after + failed)
 rise_part before after failed later rose = record { later = omega arith; rose = omega arith }

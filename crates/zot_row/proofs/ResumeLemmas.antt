@@ -119,3 +119,10 @@ given_resumes stage answered moment name old new reply well alike calm fits give
   fits = fits;
   falls = tt;
 }
+
+-- ---- any stage
+
+-- a call goes on from a stage as from the one that it is
+pub resumes_at : (stage other : Stage) (answered : PoolReply) (moment : ℕ) (name : List ℕ) (old : RepoTable) (objects : Option Objects) (before : ℕ) (result : Turn) (new : RepoTable) (later : Option Objects) (after : ℕ) → stage ≡ other
+    → Resumes other answered moment name old objects before result new later after → Resumes stage answered moment name old objects before result new later after
+resumes_at stage other answered moment name old objects before result new later after is h = subst (λ (s : Stage). Resumes s answered moment name old objects before result new later after) (sym is) h

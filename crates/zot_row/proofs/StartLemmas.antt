@@ -3,21 +3,22 @@ use Rattle.std.proofs.Common.{◌≡◌, ◌≢◌, ◌⊎◌, ◌≤◌, inl, i
 use Rattle.std.specs.Prelude.{Result, Ok, Err}
 use Rattle.zot_contents.specs.declared.pool_call.PoolCall.TheVariants as pool
 use Rattle.zot_layout.specs.Stands.{AreAlike}
-use Rattle.zot_model.specs.Mounts.{Asks}
 use Rattle.zot_model.specs.Refusals.{no_memory, storage_fault}
 use Rattle.zot_model.specs.State.{RepoState, made_known}
 use Rattle.zot_model.specs.declared.call.Call.{Call}
 use Rattle.zot_model.specs.declared.call.Call.TheVariants as calls
 use Rattle.zot_model.specs.declared.reply.Reply.{Reply}
+use Rattle.zot_model.specs.declared.reply.Reply.TheVariants as answers
 use Rattle.zot_outside.specs.Faults.{HasStoreCause, Rose}
 use Rattle.zot_outside.specs.Objects.{Objects}
 use Rattle.zot_outside.specs.declared.stores.store_error.StoreError.{StoreError}
 use Rattle.zot_outside.specs.declared.stores.store_error.StoreError.TheVariants.{Missing, Failed, NoMemory}
+use Rattle.zot_repo.proofs.ReplyLemmas.{base_given}
 use Rattle.zot_row.proofs.EndLemmas.{in_want, refused_ends}
 use Rattle.zot_row.proofs.PartLemmas.{quiet_stands, stands_then}
-use Rattle.zot_row.proofs.QuietLemmas.{fault_fits, memory_fits}
+use Rattle.zot_row.proofs.QuietLemmas.{fault_fits, memory_fits, quiet_done, quiet_never}
 use Rattle.zot_row.specs.Doing.{EndsWith}
-use Rattle.zot_row.specs.Going.{AsksToAttach, AsksToMount, FitsTurn, HasPartCause, KeepsOthers, KeepsStanding, Starts, kept_of}
+use Rattle.zot_row.specs.Going.{AsksToAttach, AsksToMount, FitsTurn, HasPartCause, KeepsOthers, KeepsStanding, NeverMounts, Quietly, Starts, kept_of}
 use Rattle.zot_row.specs.Refusals.{store_refusal}
 use Rattle.zot_row.specs.Stages.{Attaches}
 use Rattle.zot_row.specs.declared.stage.Attaching.{Attaching}
@@ -68,9 +69,17 @@ refused_starts call moment name old objects later before after error named cause
   mount = λ digest from asks. refusal_mounts error name from digest;
 }
 
+-- the same, by what the calls before it promised
+pub refused_after : {T : Type 0} (call : Call) (moment : ℕ) (name : List ℕ) (old new : RepoTable) (objects later : Option Objects) (before after : ℕ) (error : StoreError) (reply : Reply) → call ≢ calls.Base → reply ≡ store_refusal error → new ≡ old
+    → HasStoreCause {T = T} before after (Err error) → KeepsStanding objects name old later new → KeepsOthers objects name old later → Starts call moment name old objects before (turns.Done reply) new later after
+refused_after {T} call moment name old new objects later before after error reply named is same cause stands beside =
+    subst (λ (r : Reply). Starts call moment name old objects before (turns.Done r) new later after) (sym is)
+    (subst (λ (t : RepoTable). Starts call moment name old objects before (turns.Done (store_refusal error)) t later after) (sym same)
+    (refused_starts {T = T} call moment name old objects later before after error named cause (subst (λ (t : RepoTable). KeepsStanding objects name old later t) same stands) beside))
+
 -- ---- bytes that are to be held
 
-module _ (call : Call) (moment : ℕ) (name : List ℕ) (old : RepoTable) (objects later : Option Objects) (before after : ℕ) (named : call ≢ calls.Base) (never : (digest from : List ℕ) → Asks call digest from → ⊥) (stay : after ≡ before)
+module _ (call : Call) (moment : ℕ) (name : List ℕ) (old : RepoTable) (objects later : Option Objects) (before after : ℕ) (named : call ≢ calls.Base) (never : NeverMounts call) (stay : after ≡ before)
     (stands : KeepsStanding objects name old later (known_as true old)) (beside : KeepsOthers objects name old later) where
   -- memory ran out behind it
   pub known_want : Starts call moment name old objects before (turns.Done no_memory) (known_as true old) later after
@@ -119,3 +128,20 @@ module _ (call : Call) (moment : ℕ) (name : List ℕ) (old : RepoTable) (objec
   attach_starts mid new result digest bytes purpose is (inr h) attaches ends =
       subst (λ (t : RepoTable). Starts call moment name old objects before result t later after) (sym (h.1 ∙ is))
       (subst (λ (r : Turn). Starts call moment name old objects before r (known_as true old) later after) (sym h.0) known_want)
+
+-- ---- any call
+
+-- a call begins as the one that it is
+pub starts_as : (call other : Call) (moment : ℕ) (name : List ℕ) (old : RepoTable) (objects : Option Objects) (before : ℕ) (result : Turn) (new : RepoTable) (later : Option Objects) (after : ℕ) → call ≡ other
+    → Starts other moment name old objects before result new later after → Starts call moment name old objects before result new later after
+starts_as call other moment name old objects before result new later after is h = subst (λ (c : Call). Starts c moment name old objects before result new later after) (sym is) h
+
+-- and one that asks nothing of the part, and is no mount
+pub quiet_as : (call other : Call) (moment : ℕ) (name : List ℕ) (old : RepoTable) (result : Turn) (new : RepoTable) (objects : Option Objects) (faults : ℕ) → call ≡ other → NeverMounts other → Quietly other moment name old result new
+    → Starts call moment name old objects faults result new objects faults
+quiet_as call other moment name old result new objects faults is never quiet =
+    starts_as call other moment name old objects faults result new objects faults is (quiet_never other moment name old result new objects faults never quiet)
+
+-- the base route is answered as it is
+pub base_quiet : (moment : ℕ) (name : List ℕ) (table : RepoTable) → Quietly calls.Base moment name table (turns.Done answers.Base) table
+base_quiet moment name table = quiet_done calls.Base moment name table answers.Base (λ holds agrees. base_given moment (repo_of table holds) answers.Base refl) (inl tt) (λ h. cc h)

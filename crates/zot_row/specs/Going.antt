@@ -1,5 +1,6 @@
 -- What a turn promises: of the repository and its answer, of the part, and of the faults.
-use Rattle.std.specs.Prelude.{◌≡◌, ◌≢◌, ◌<◌, ◌⊎◌, ℕ, ◌+◌, List, length, Option, Some, None, IfSome, ⊤}
+use Rattle.std.specs.Prelude.{◌≡◌, ◌≢◌, ◌<◌, ◌⊎◌, ℕ, ◌+◌, Bool, true, false, if◌then◌else◌, List, length, Err, Option, Some, None, IfSome, ⊤}
+use Rattle.std.specs.FinMap as finite
 use Rattle.zot_contents.specs.declared.pool_call.PoolCall.{PoolCall}
 use Rattle.zot_contents.specs.declared.pool_call.PoolCall.TheVariants as pool
 use Rattle.zot_contents.specs.declared.pool_reply.PoolReply.{PoolReply}
@@ -9,20 +10,26 @@ use Rattle.zot_layout.specs.Stands.{AreAlike, StandsFor}
 use Rattle.zot_layout.specs.Writing.{KeepsElsewhere}
 use Rattle.zot_model.specs.declared.call.Call.{Call}
 use Rattle.zot_model.specs.declared.reply.Reply.{Reply}
+use Rattle.zot_model.specs.declared.reply.Reply.TheVariants.{Session}
 use Rattle.zot_model.specs.Fits.{FitsCall}
 use Rattle.zot_model.specs.Mounts.{Asks as AsksMount}
 use Rattle.zot_model.specs.Plain.{Stay}
 use Rattle.zot_model.specs.Refusals.{no_memory, storage_fault}
 use Rattle.zot_model.specs.State.{RepoState}
-use Rattle.zot_outside.specs.Faults.{Rose}
+use Rattle.zot_model.specs.Uploads.{is_full, with_new}
+use Rattle.zot_outside.specs.Faults.{HasStoreCause, Rose}
 use Rattle.zot_outside.specs.Objects.{Objects, Told}
-use Rattle.zot_table.specs.Changes.{reserved}
+use Rattle.zot_outside.specs.declared.stores.store_error.StoreError.{StoreError}
+use Rattle.zot_table.specs.Changes.{known_as, reserved, with_uploads}
 use Rattle.zot_table.specs.Standing.{Agrees, Holds, repo_of}
 use Rattle.zot_table.specs.Tables.{RepoTable}
 use Rattle.zot_row.specs.Doing.{Doing}
-use Rattle.zot_row.specs.Stages.{IsFor, pending}
+use Rattle.zot_row.specs.Refusals.{store_refusal}
+use Rattle.zot_row.specs.Stages.{IsFor, Learns, pending}
 use Rattle.zot_row.specs.Turns.{Counts, Ends, Takes, given}
 use Rattle.zot_row.specs.declared.stage.Attaching.{Attaching}
+use Rattle.zot_row.specs.declared.stage.Learning.{Learning}
+use Rattle.zot_row.specs.declared.stage.Rest.{Rest}
 use Rattle.zot_row.specs.declared.stage.Stage.{Stage}
 use Rattle.zot_row.specs.declared.stage.Stage.TheVariants as stages
 use Rattle.zot_row.specs.declared.turn.Turn.{Turn}
@@ -145,11 +152,52 @@ pub record Quietly (call : Call) (moment : ℕ) (name : List ℕ) (old : RepoTab
   pub fits : FitsTurn call result
   pub calm : IsCalm result
 
--- the pool is asked to hold these bytes under a digest, for which there is room then; or memory ran out, and nothing changed
+-- a call that takes over no blob
+abbrev pub NeverMounts : Call → Type 0
+NeverMounts call = (digest from : List ℕ) → AsksMount call digest from → ⊥
+
+-- the pool is asked this, and there is room under the digest then; or memory ran out, and nothing changed
+abbrev pub AsksWithRoom : Turn → PoolCall → Stage → List ℕ → RepoTable → RepoTable → Type 0
+AsksWithRoom result asked stage digest old new = ((result ≡ turns.Asks asked stage) × (new ≡ reserved old digest)) ⊎ ((result ≡ turns.Done no_memory) × (new ≡ old))
+
+-- the pool is asked to hold these bytes under a digest
 abbrev pub AsksToAttach : Turn → List ℕ → List ℕ → List ℕ → Attaching → RepoTable → RepoTable → Type 0
-AsksToAttach result name digest bytes purpose old new =
-    ((result ≡ turns.Asks (pool.Attach name digest bytes) (stages.Attach digest (length bytes) purpose)) × (new ≡ reserved old digest))
-    ⊎ ((result ≡ turns.Done no_memory) × (new ≡ old))
+AsksToAttach result name digest bytes purpose old new = AsksWithRoom result (pool.Attach name digest bytes) (stages.Attach digest (length bytes) purpose) digest old new
+
+-- it is asked for what another repository holds
+abbrev pub AsksToTake : Turn → List ℕ → List ℕ → List ℕ → Bool → Rest → RepoTable → RepoTable → Type 0
+AsksToTake result name from digest made rest old new = AsksWithRoom result (pool.Mount name from digest) (stages.Mount digest made rest) digest old new
+
+-- an upload is opened at the moment, or memory ran out, and nothing changed
+abbrev pub Opens : ℕ → RepoTable → Reply → RepoTable → Type 0
+Opens moment old reply new =
+    ((is_full old.sessions ≡ false) × (reply ≡ Session (old.sessions.opened + 1) 0 202) × (new ≡ with_uploads old (with_new moment old.sessions)))
+    ⊎ ((reply ≡ no_memory) × (new ≡ old))
+
+-- a repository that waits for bytes is known and has room for them; or it isn't so
+abbrev pub IsReady : RepoTable → List ℕ → Type 0
+IsReady repo digest = (repo.known ≡ true) × (finite.contains_key repo.slots digest ≡ true)
+
+abbrev pub IsUnready : RepoTable → List ℕ → Type 0
+IsUnready repo digest = (repo.known ≡ false) ⊎ (finite.contains_key repo.slots digest ≡ false)
+
+-- a POST is refused so, and the repository is forgotten again where it was made known for it; or the part refuses that
+abbrev pub TakesBack : Bool → Reply → RepoTable → ℕ → Reply → RepoTable → ℕ → Type 0
+TakesBack made reply old before result new after =
+    ((result ≡ reply) × (new ≡ (if made then known_as false old else old)) × (after ≡ before))
+    ⊎ ((error : StoreError) × (result ≡ store_refusal error) × (new ≡ old) × HasStoreCause {T = Unit {0}} before after (Err error))
+
+-- the pool is asked less often than this from here on
+abbrev pub IsBelow : ℕ → Turn → Type 0
+IsBelow most (turns.Done reply) = ⊤
+IsBelow most (turns.Asks asked next) = pending next < most
+
+-- a call that has to know what manifests say goes on so, where this is known of them
+pub record GoesOnReading (purpose : Learning) (Known : Type 0) (most : ℕ) (name : List ℕ) (repo : RepoTable) (result : Turn) : Type 0 where
+  pub answer : (call : Call) (moment : ℕ) → Learns purpose call → Known → Quietly call moment name repo result repo
+  pub fits : (call : Call) → Learns purpose call → FitsTurn call result
+  pub calm : IsCalm result
+  pub below : IsBelow most result
 
 -- a call goes on so from a stage, and asks nothing of the part
 abbrev pub ResumesQuietly : Stage → PoolReply → ℕ → List ℕ → RepoTable → Turn → RepoTable → Type 0

@@ -106,7 +106,7 @@ given (replies.Removed was) asked holds = None
 given replies.Failed asked holds = None
 given replies.NoMemory asked holds = None
 
--- an answer that a shard failed is one more of these, and no other is
+-- an answer that a shard failed makes more of these, and no other does
 abbrev pub Counts : PoolReply → ℕ → ℕ → Type 0
 Counts replies.Done before after = after ≡ before
 Counts (replies.Held list) before after = after ≡ before
@@ -114,5 +114,5 @@ Counts (replies.Size size) before after = after ≡ before
 Counts (replies.Content bytes) before after = after ≡ before
 Counts replies.Nothing before after = after ≡ before
 Counts (replies.Removed was) before after = after ≡ before
-Counts replies.Failed before after = after ≡ before + 1
+Counts replies.Failed before after = Rise before after
 Counts replies.NoMemory before after = after ≡ before

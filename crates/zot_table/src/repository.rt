@@ -1,5 +1,6 @@
 //! One repository's table.
 ghost use Rattle.std.specs.Prelude.{◌≡◌, ◌≢◌, false, true};
+ghost use Rattle.zot_manifests.specs.Table.{empty_table};
 ghost use Rattle.zot_table.specs.Changes.{known_as};
 ghost use Rattle.zot_table.specs.Tables.{fresh_table};
 
@@ -68,6 +69,13 @@ impl Repository {
             return false;
         }
         self.sessions.is_fresh()
+    }
+
+    /// Whether it has neither manifests nor tags. Takes no memory.
+    pub fn is_bare(&self) -> bool
+        ensures { result ≡ true → self.now.table ≡ empty_table }
+    {
+        self.manifests.is_empty()
     }
 
     /// Whether it is known.
