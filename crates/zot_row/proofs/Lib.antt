@@ -3,7 +3,10 @@ pub mod PartLemmas
 pub mod QuietLemmas
 pub mod StartLemmas
 pub mod ResumeLemmas
+pub mod BlobLemmas
 pub mod UploadLemmas
 pub mod AttachLemmas
 pub mod PostLemmas
 pub mod MountLemmas
+pub mod LearnLemmas
+pub mod ManifestLemmas
