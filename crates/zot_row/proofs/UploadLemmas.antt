@@ -1,5 +1,5 @@
 -- GET, PATCH and the last PUT of an upload.
-use Rattle.std.proofs.Common.{◌≡◌, ◌≢◌, ℕ, ◌+◌, ◌++◌, List, length, Option, Some, None, refl, sym, ap, subst, ◌∙◌}
+use Rattle.std.proofs.Common.{◌≡◌, ◌≢◌, ℕ, ◌+◌, ◌++◌, List, length, Option, Some, None, refl, sym, ap, ◌∙◌}
 use Rattle.std.specs.FinMap as finite
 use Rattle.zot_model.specs.Refusals.{storage_fault}
 use Rattle.zot_model.specs.Uploads.{OpenUpload, UploadTable, bytes_of, with_piece}
