@@ -1,5 +1,5 @@
 -- What a call on a row with its pool is answered, and what stays the same.
-use Rattle.std.specs.Prelude.{◌≡◌, ℕ, ◌+◌, None, List, sum}
+use Rattle.std.specs.Prelude.{◌≡◌, ℕ, ◌+◌, ◌≤◌, None, List, sum}
 use Rattle.zot_contents.specs.declared.shard.DigestShard.{DigestShard}
 use Rattle.zot_core.specs.RowGoing.{IsOwn, KeepsBeside, OnName}
 use Rattle.zot_core.specs.Rows.{AgreesRow, NoneFresh}
@@ -18,6 +18,7 @@ pub record AnswersCall {S : Type 0} {G : Ghosts S} (old : RepoShard S G) (before
   pub others : BothHold (holds (objects_of before)) (holds (objects_of after)) (λ held behind. AgreesRow (IsOwn old.core.config old.core.row) old.core.repos held → OnName call (λ name. KeepsOtherNames name held behind))
   pub fault : HasAnswerCause answer (G.faults old.core.part) (G.faults new.core.part) (sum (faults_of before)) (sum (faults_of after))
   pub unfailed : BothHold (holds (objects_of before)) (holds (objects_of after)) (λ held behind. AgreesRow (IsOwn old.core.config old.core.row) old.core.repos held → IsUnfailed answer → new.failed ≡ old.failed)
+  pub later : sum (faults_of before) ≤ sum (faults_of after)
   pub counted : IsCounted old.failed new.failed (sum (faults_of before)) (sum (faults_of after))
   pub fits : IsFitting call answer
   pub beside : OnName call (λ name. KeepsBeside (G.objects old.core.part) name (G.objects new.core.part))

@@ -54,6 +54,13 @@ impl<S: Store> RepoShard<S> {
         requires { IsOnOwn (IsOwn self.old.core.config self.old.core.row) (Ask request.now) }
         ensures { AnswersCall self.old pool.old.shards.items (Ask request.now) moment result self.new pool.new.shards.items }
     {
-        drive(&mut self.core, &mut self.failed, pool, alloc, request, moment)
+        drive(
+            &mut self.core,
+            &mut self.failed,
+            pool,
+            alloc,
+            request,
+            moment,
+        )
     }
 }

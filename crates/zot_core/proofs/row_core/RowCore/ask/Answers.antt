@@ -2,7 +2,7 @@ use Rattle.std.proofs.Common.{List, ℕ, refl}
 use Rattle.zot_model.specs.declared.row.RowCall.TheVariants.{Ask}
 use Rattle.zot_core.specs.RowGoing.{IsOwn, KeepsBeside, Rests}
 use Rattle.zot_core.proofs.RowTurnLemmas.{filled_idle, filled_then, on_name, own_of, placed_left}
-use Rattle.zot_core.proofs.beginning.RowCore.ask.Goals as goal
+use Rattle.zot_core.proofs.row_core.RowCore.ask.Goals as goal
 
 pub invariant_of-self : goal.invariant_of-self
 invariant_of-self g c =

@@ -2,7 +2,7 @@ use Rattle.std.proofs.Common.{sym, subst}
 use Rattle.zot_model.specs.declared.row.RowCall.{RowCall}
 use Rattle.zot_core.specs.Answering.{AnswersCall}
 use Rattle.zot_core.specs.RowGoing.{IsOnOwn, IsOwn}
-use Rattle.zot_core.proofs.answering.RepoShard.step.Goals as goal
+use Rattle.zot_core.proofs.shard.RepoShard.step.Goals as goal
 
 pub answer-requires : goal.answer-requires
 answer-requires g c = subst (λ (o : RowCall). IsOnOwn (IsOwn c.args.self.now.core.config c.args.self.now.core.row) o) c.request.ensures c.requires

@@ -2,7 +2,7 @@ use Rattle.std.proofs.Common.{sym, subst}
 use Rattle.zot_model.specs.declared.row.RowCall.{RowCall}
 use Rattle.zot_core.specs.RowGoing.{IsOnOwn, IsOwn}
 use Rattle.zot_core.specs.Shards.{BeginsCall}
-use Rattle.zot_core.proofs.beginning.RowCore.start.Goals as goal
+use Rattle.zot_core.proofs.row_core.RowCore.start.Goals as goal
 
 pub ask-requires-clause-own : goal.ask-requires-clause-own
 ask-requires-clause-own g c = subst (λ (o : RowCall). IsOnOwn (IsOwn c.args.self.now.config c.args.self.now.row) o) c.request.ensures c.requires.own
