@@ -15,3 +15,4 @@ pub mod StandsLemmas
 pub mod OpeningLemmas
 pub mod ToldLemmas
 pub mod WritingLemmas
+pub mod OpenedLemmas

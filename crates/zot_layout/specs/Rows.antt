@@ -10,6 +10,7 @@ use Rattle.zot_siphash.specs.SipHash.{siphash}
 use Rattle.zot_layout.specs.Marker.{is_marker}
 use Rattle.zot_layout.specs.Paths.{index_path, marker_path}
 use Rattle.zot_layout.specs.Reading.{meaning}
+use Rattle.zot_layout.specs.State.{IsIndex}
 use Rattle.zot_layout.specs.declared.index_state.IndexState.{IndexState}
 use Rattle.zot_layout.specs.declared.layout_error.LayoutError.{LayoutError}
 use Rattle.zot_layout.specs.declared.layout_error.LayoutError.TheVariants as errors
@@ -55,6 +56,10 @@ pub record AreMarked (objects : Objects) (IsOwn : List ℕ → Type 0) (names : 
 -- a repository with what its index holds
 abbrev pub Opened : Type 0
 Opened = List ℕ × IndexState
+
+-- repositories whose names are some of these, each with an index
+abbrev pub AreIndexes : (List ℕ → Type 0) → List Opened → Type 0
+AreIndexes Of repos = AllByRecursion (λ o. Of o.0 × IsIndex o.1) repos
 
 -- one that is known, before others
 abbrev pub before : List ℕ → Option IndexState → List Opened → List Opened

@@ -1,9 +1,9 @@
 //! The repositories of a row, as its part of the store holds them.
-ghost use Rattle.std.specs.Prelude.{◌≡◌, ◌++◌, [], ℕ, List, IfOk, IfSome, OnOk};
+ghost use Rattle.std.specs.Prelude.{◌≡◌, ◌++◌, [], ℕ, List, Contains, IfOk, IfSome, OnOk};
 ghost use Rattle.zot_outside.specs.Objects.{Keeps};
 ghost use Rattle.zot_siphash.specs.Owners.{AreMembers};
 ghost use Rattle.zot_layout.specs.Causes.{Answers, HasLayoutCause, items_in};
-ghost use Rattle.zot_layout.specs.Rows.{IsOfRow, OpensRow, before, opened};
+ghost use Rattle.zot_layout.specs.Rows.{AreIndexes, IsOfRow, OpensRow, before, opened};
 ghost use Rattle.zot_layout.specs.Stands.{StandsFor, repo_among};
 
 use crate::index_state::IndexState;
@@ -32,6 +32,7 @@ pub fn open_row<S: Store>(
     ensures kept { Keeps (S.objects part.old) (S.objects part.new) }
     ensures opens { IfSome (S.objects part.old) (λ told. OpensRow told (IsOfRow key.now members row) moment (items_in result)) }
     ensures stands { IfSome (S.objects part.old) (λ told. IfOk result (λ repos. (name : List ℕ) → IsOfRow key.now members row name → StandsFor told moment name (repo_among repos.items name))) }
+    ensures indexes { IfOk result (λ repos. AreIndexes (IsOfRow key.now members row) repos.items) }
 {
     let names = marked_names(alloc, part, row, members, key)?;
     read_layouts(alloc, part, names, moment)
@@ -47,6 +48,7 @@ fn read_layouts<S: Store>(
     ensures cause { HasLayoutCause (S.faults part.old) (S.faults part.new) result }
     ensures kept { Keeps (S.objects part.old) (S.objects part.new) }
     ensures told { IfSome (S.objects part.old) (λ told. Answers (items_in result) (opened told moment names.items)) }
+    ensures indexes { IfOk result (λ repos. AreIndexes (Contains names.items) repos.items) }
 {
     let mut repos = Vec::new(alloc);
     for name in names {

@@ -30,6 +30,7 @@ pub fn read_layout<S: Store>(
     ensures cause { HasLayoutCause (S.faults part.old) (S.faults part.new) result }
     ensures kept { Keeps (S.objects part.old) (S.objects part.new) }
     ensures told { IfSome (S.objects part.old) (λ told. Answers result (layout_of told name.now moment)) }
+    ensures index { IfOk result (λ found. IfSome found IsIndex) }
 {
     let path = marker_path(alloc, name.as_str())?;
     let Some(marker) = read_object(alloc, part, path.as_str())? else {
@@ -50,6 +51,7 @@ fn read_own_index<S: Store>(
     ensures cause { HasLayoutCause (S.faults part.old) (S.faults part.new) result }
     ensures kept { Keeps (S.objects part.old) (S.objects part.new) }
     ensures told { IfSome (S.objects part.old) (λ told. Answers result (index_by name.now moment (map.get told (index_path name.now)))) }
+    ensures index { IfOk result IsIndex }
 {
     let path = index_path(alloc, name.as_str())?;
     match read_object(alloc, part, path.as_str())? {

@@ -1,5 +1,6 @@
 //! The names of a row's repositories in a store, by the paths of their markers.
 ghost use Rattle.std.specs.Prelude.{◌≡◌, ◌++◌, IfErr, IfOk, IfSome, OnOk, option_to_list, option_map, string_bytes};
+ghost use Rattle.std.specs.List.{AllByRecursion};
 ghost use Rattle.zot_outside.specs.Objects.{Follows, Keeps};
 ghost use Rattle.zot_outside.specs.PathWalks.{HasRoom, last_path};
 ghost use Rattle.zot_siphash.specs.Owners.{AreMembers};
@@ -25,6 +26,7 @@ pub fn marked_names<S: Store>(
     ensures cause { HasLayoutCause (S.faults part.old) (S.faults part.new) result }
     ensures kept { Keeps (S.objects part.old) (S.objects part.new) }
     ensures told { IfSome (S.objects part.old) (λ told. IfOk result (λ names. AreMarked told (IsOfRow key.now members row) names.items)) }
+    ensures own { IfOk result (λ names. AllByRecursion (IsOfRow key.now members row) names.items) }
     ensures error { IfErr result SaysNothing }
 {
     let mut walk = PathWalk::over(part, alloc);

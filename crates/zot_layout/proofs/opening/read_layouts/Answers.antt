@@ -1,8 +1,10 @@
-use Rattle.std.proofs.Common.{rules, ◌≡◌, Vec, Global, refl, sym, subst, ◌∙◌}
+use Rattle.std.proofs.Common.{rules, ◌≡◌, Contains, Vec, Global, refl, sym, subst, ◌∙◌}
+use Rattle.std.specs.List.{AllByRecursion}
 use Rattle.std.specs.Vec.Iter.{into_iter_items}
 use Rattle.zot_layout.specs.Causes.{HasLayoutCause}
-use Rattle.zot_layout.specs.Rows.{Opened}
+use Rattle.zot_layout.specs.Rows.{AreIndexes, Opened}
 use Rattle.zot_layout.proofs.CauseLemmas.{no_fault}
+use Rattle.zot_layout.proofs.OpenedLemmas.{all_in, indexes_more}
 use Rattle.zot_layout.proofs.OpeningLemmas.{Left, left_bad, left_first, left_more, left_none, none_in}
 use Rattle.zot_layout.proofs.opening.read_layouts.Goals as goal
 
@@ -14,6 +16,8 @@ loop-name-init g c =
       refl,
       subst (Left objects c.args.moment c.args.names.items c.new-repos.result.items) (sym given)
           (left_first objects c.args.moment c.args.names.items c.new-repos.result.items c.new-repos.ensures.items),
+      subst (AreIndexes (Contains c.args.names.items)) (sym c.new-repos.ensures.items) tt,
+      subst (AllByRecursion (Contains c.args.names.items)) (sym given) (all_in c.args.names.items),
     )
 
 pub returns-in_err-found-clause-cause : goal.returns-in_err-found-clause-cause
@@ -32,12 +36,15 @@ returns-in_err-found-clause-told g c =
 
 pub loop-name-preserved : goal.loop-name-preserved
 loop-name-preserved g c =
-    let objects = g.S.Store.objects in (
+    let objects = g.S.Store.objects in
+    let left = subst (AllByRecursion (Contains c.args.names.items)) c.in-Some.ensures.steps.0 c.loop-name.invariant.4 in (
       c.in_ok-found.ensures.cause.kept ∙ c.loop-name.invariant.0,
       c.in_ok-found.ensures.kept ∙ c.loop-name.invariant.1,
       left_more (objects c.args.part.now) c.args.moment c.args.names.items c.loop-name.repos.items c.add_known.new.repos.items c.in-Some.name (into_iter_items c.next.new.self) c.in_ok-found.found
           (objects c.loop-name.part) c.loop-name.invariant.1 c.in_ok-add_known.ensures c.in_ok-found.ensures.told
           (subst (Left (objects c.args.part.now) c.args.moment c.args.names.items c.loop-name.repos.items) c.in-Some.ensures.steps.0 c.loop-name.invariant.2),
+      indexes_more (Contains c.args.names.items) c.loop-name.repos.items c.add_known.new.repos.items c.in-Some.name c.in_ok-found.found c.loop-name.invariant.3 left.0 c.in_ok-found.ensures.index c.in_ok-add_known.ensures,
+      left.1,
     )
 
 pub returns-in_err-add_known-clause-cause : goal.returns-in_err-add_known-clause-cause
@@ -58,3 +65,6 @@ returns-clause-told g c =
     let objects = g.S.Store.objects c.args.part.now in
     left_none objects c.args.moment c.args.names.items c.loop-name.repos.items
     (subst (Left objects c.args.moment c.args.names.items c.loop-name.repos.items) (none_in (into_iter_items c.loop-name.name-iterator) _ c.loop-name.name-iterator.rest.ok.0 c.in-None.ensures.steps.0) c.loop-name.invariant.2)
+
+pub returns-clause-indexes : goal.returns-clause-indexes
+returns-clause-indexes g c = c.loop-name.invariant.3

@@ -1,8 +1,10 @@
-use Rattle.std.proofs.Common.{◌≡◌, IfSome, Some, None, option_map, string_bytes, refl, subst, ◌∙◌}
+use Rattle.std.proofs.Common.{◌≡◌, IfSome, Some, None, option_map, string_bytes, refl, sym, subst, ◌∙◌}
+use Rattle.std.specs.List.{AllByRecursion}
 use Rattle.zot_outside.specs.Objects.{Follows}
 use Rattle.zot_outside.specs.PathWalks.{HasRoom, last_path}
 use Rattle.zot_layout.specs.Rows.{IsOfRow}
 use Rattle.zot_layout.specs.Walks.{IsMarkerOf}
+use Rattle.zot_layout.proofs.OpenedLemmas.{own_more}
 use Rattle.zot_layout.proofs.WalkLemmas.{walked_first, walked_last, walked_on}
 use Rattle.zot_layout.proofs.walking.marked_names.Goals as goal
 
@@ -13,6 +15,7 @@ loop-init g c = (
   c.over-walk.ensures.room,
   walked_first (IsOfRow c.args.key.now c.args.members c.args.row) (g.S.Store.objects c.args.part.now) (last_path c.over-walk.result) c.new-names.result.items (g.met.S.Store.limited c.args.part.now)
       c.over-walk.ensures.last c.new-names.ensures.items,
+  subst (AllByRecursion (IsOfRow c.args.key.now c.args.members c.args.row)) (sym c.new-names.ensures.items) tt,
 )
 
 pub returns-in_default-clause-told : goal.returns-in_default-clause-told
@@ -34,4 +37,9 @@ loop-preserved g c =
           (subst (λ p. IsMarkerOf own p c.in_ok-found.found) c.as_str.ensures.value c.in_ok-found.ensures)
           (subst (λ f. IfSome f (λ path. last_path c.next_path.new.walk ≡ string_bytes path)) c.in-Some.is c.in_ok-path.ensures.last)
           c.in_ok-add_found.ensures c.loop.invariant.3,
+      own_more own c.loop.names.items c.add_found.new.names.items (string_bytes c.in-Some.path) c.in_ok-found.found c.loop.invariant.4
+          (subst (λ p. IsMarkerOf own p c.in_ok-found.found) c.as_str.ensures.value c.in_ok-found.ensures) c.in_ok-add_found.ensures,
     )
+
+pub returns-in_default-clause-own : goal.returns-in_default-clause-own
+returns-in_default-clause-own g c = c.loop.invariant.4
