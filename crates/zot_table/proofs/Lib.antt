@@ -11,3 +11,4 @@ pub mod LeavingLemmas
 pub mod SinceLemmas
 pub mod PutLemmas
 pub mod OpeningLemmas
+pub mod FoundLemmas

@@ -1,6 +1,6 @@
 -- The table of a repository that an index opens.
-use Rattle.std.proofs.Common.{◌≡◌, ℕ, Bool, true, false, cond, List, [], ◌∷◌, map, Option, Some, None, is_some, refl, sym, ap, subst, ◌∙◌, unwrap_or}
-use Rattle.std.specs.Prelude.{◌||◌, T}
+use Rattle.std.proofs.Common.{◌≡◌, ℕ, true, false, cond, List, [], ◌∷◌, map, Option, Some, refl, sym, ap, subst, ◌∙◌, unwrap_or}
+use Rattle.std.specs.Prelude.{◌||◌}
 use Rattle.std.specs.Cmp.Lexicographic.{nat_list_cmp_total}
 use Rattle.std.specs.FinMap as finite
 use Rattle.std.specs.FinMap.{contains_key-keys, entries-insert, get-empty, get-from_entries, len-empty, len-entries, same_entries_map}
@@ -71,7 +71,7 @@ tag_keys [] = refl
 tag_keys (t ∷ tags) = ap (λ l. t.tag ∷ l) (tag_keys tags)
 
 -- what is kept of one that is found says nothing
-says_nothing : (q : List ℕ) (kept : Kept) (manifests : List IndexManifest) → find byte_cmp q (map opened_kept manifests) ≡ Some kept → kept.reading ≡ empty_reading
+pub says_nothing : (q : List ℕ) (kept : Kept) (manifests : List IndexManifest) → find byte_cmp q (map opened_kept manifests) ≡ Some kept → kept.reading ≡ empty_reading
 says_nothing q kept [] h = cc h
 says_nothing q kept (m ∷ manifests) h =
     elim (eq_by_cmp byte_cmp q m.digest) as (λ b. cond b (Some (opened_kept m).1) (find byte_cmp q (map opened_kept manifests)) ≡ Some kept → kept.reading ≡ empty_reading) [
@@ -94,7 +94,7 @@ any_key digest [] = refl
 any_key digest (m ∷ manifests) = ap (λ b. b || list_any (eq_by_cmp byte_cmp digest) (keys_of (map opened_kept manifests))) (same_digest digest m.digest) ∙ ap (λ b. bytes_eq digest m.digest || b) (any_key digest manifests)
 
 module _ (index : IndexState) (is : IsIndex index) where
-  manifests_ascend : IsStrictlySortedBy byte_cmp (keys_of (map opened_kept index.manifests))
+  pub manifests_ascend : IsStrictlySortedBy byte_cmp (keys_of (map opened_kept index.manifests))
   manifests_ascend = subst (λ l. IsStrictlySortedBy byte_cmp l) (sym (manifest_keys index.manifests)) is.digests_ascend
 
   tags_ascend : IsStrictlySortedBy byte_cmp (keys_of (map opened_tag index.tags))
@@ -106,7 +106,7 @@ module _ (index : IndexState) (is : IsIndex index) where
       made ∙ ap (λ (m : ByteMap Kept). record { manifests = m; tags = put_each finite.empty (map opened_tag index.tags) }) (put_sorted (map opened_kept index.manifests) manifests_ascend)
       ∙ ap (λ (t : ByteMap StoredTag). record { manifests = map_of (map opened_kept index.manifests); tags = t }) (put_sorted (map opened_tag index.tags) tags_ascend)
 
-  found_kept : (q : List ℕ) (found : Option Kept) → finite.get (opened_table index).table.manifests q ≡ found → find byte_cmp q (map opened_kept index.manifests) ≡ found
+  pub found_kept : (q : List ℕ) (found : Option Kept) → finite.get (opened_table index).table.manifests q ≡ found → find byte_cmp q (map opened_kept index.manifests) ≡ found
   found_kept q found h = sym (get-from_entries nat_list_cmp_total (map opened_kept index.manifests) q) ∙ h
 
   -- the parts keep what they do

@@ -1,6 +1,6 @@
 -- A manifest that was put, and taken back.
-use Rattle.std.proofs.Common.{◌≡◌, ◌≢◌, ℕ, Bool, true, false, cond, List, Option, Some, None, is_some, refl, sym, ap, subst, ◌∙◌}
-use Rattle.std.specs.Prelude.{IfSome, Result, Ok, Err, OnErr, OnOk, is_ok}
+use Rattle.std.proofs.Common.{◌≡◌, ℕ, Bool, true, false, cond, List, Option, Some, None, is_some, refl, sym, ap, subst, ◌∙◌}
+use Rattle.std.specs.Prelude.{IfSome, Result, Ok, Err, OnErr, OnOk}
 use Rattle.std.specs.Cmp.Lexicographic.{nat_list_cmp_total}
 use Rattle.std.specs.FinMap as finite
 use Rattle.std.specs.FinMap.{get-insert}
@@ -15,7 +15,7 @@ use Rattle.zot_manifests.specs.Table.{Table, put_back, tag_back, tag_before, tak
 use Rattle.zot_manifests.specs.declared.checked.Checked.{Checked}
 use Rattle.zot_manifests.specs.declared.kept.Kept.{Kept}
 use Rattle.zot_manifests.specs.declared.replaced.Replaced.{Replaced}
-use Rattle.zot_maps.proofs.Maps.{byte_order, get_elsewhere, get_here, insert-same, same_by_key, tied_keys}
+use Rattle.zot_maps.proofs.Maps.{byte_order, get_elsewhere, get_here, same_by_key, tied_keys}
 use Rattle.zot_media.specs.declared.media.Media.{Media}
 use Rattle.zot_media.specs.declared.reading.Reading.{Reading}
 use Rattle.zot_model.specs.Manifests.{with_tag}

@@ -1,13 +1,14 @@
 //! The table of a repository that an index opens.
-ghost use Rattle.std.specs.Prelude.{◌≡◌, IfOk, OnOk, map};
+ghost use Rattle.std.specs.Prelude.{◌≡◌, IfOk, OnErr, OnOk, map};
 ghost use Rattle.std.specs.FinMap as finite;
 ghost use Rattle.zot_layout.specs.Stands.{opened_tag};
 ghost use Rattle.zot_layout.specs.State.{IsIndex};
-ghost use Rattle.zot_table.specs.Opening.{opened_kept, opened_table, put_each};
+ghost use Rattle.zot_table.specs.Opening.{opened_kept, opened_table, put_each, with_found};
 
 use crate::repository::Repository;
 use crate::slot_map::SlotMap;
 use std::alloc::{AllocError, Global};
+use zot_digest::Digest;
 use zot_layout::{IndexManifest, IndexState, IndexTag};
 use zot_manifests::{Checked, Manifests};
 use zot_media::Reading;
@@ -30,6 +31,17 @@ impl Repository {
             all_read: true,
             sessions: Uploads::new(alloc),
         })
+    }
+
+    /// A blob of so many bytes is found to be held, as one that arrived at the moment. The repository is known only where it was. After an `Err`, which comes only where memory runs out, the table is as it was.
+    pub fn hold_found(&mut self, digest: &Digest, size: u64, moment: u64) -> Result<(), AllocError>
+        ensures ok { OnOk result (self.new ≡ with_found moment self.old digest.now size) }
+        ensures err { OnErr result (self.new ≡ self.old) }
+    {
+        let known = self.known();
+        self.hold(digest, size, moment)?;
+        self.set_known(known);
+        Ok(())
     }
 }
 

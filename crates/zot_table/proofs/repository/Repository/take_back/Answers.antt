@@ -1,4 +1,4 @@
-use Rattle.std.proofs.Common.{true, false, sym, subst, ◌∙◌}
+use Rattle.std.proofs.Common.{sym, subst, ◌∙◌}
 use Rattle.zot_table.proofs.PutLemmas.{all_back, kept_back, put_there, table_back}
 use Rattle.zot_table.specs.Putting.{WasPut}
 use Rattle.zot_table.specs.Tables.{RepoTable}
