@@ -7,3 +7,4 @@ pub mod AskLemmas
 pub mod DriveLemmas
 pub mod DrivesLemmas
 pub mod StepLemmas
+pub mod OpenLemmas

@@ -3,3 +3,4 @@ pub mod RowGoing
 pub mod StandProps
 pub mod Shards
 pub mod Answering
+pub mod Opening

@@ -2,13 +2,15 @@
 ghost use Rattle.std.specs.Prelude.{◌≡◌, ◌≢◌, IsSome, OnErr, OnOk, Some};
 ghost use Rattle.std.specs.FinMap as map;
 ghost use Rattle.zot_row.specs.Going.{Resumes, Starts};
+ghost use Rattle.zot_core.specs.Opening.{with_holding};
 ghost use Rattle.zot_core.specs.Rows.{SetsTable, table_at};
+ghost use Rattle.zot_table.specs.Opening.{with_found};
 ghost use Rattle.zot_table.specs.Tables.{fresh_table};
 
 use std::alloc::{AllocError, Global};
 use std::collections::BTreeMap;
 use std::marker::Model;
-use zot_contents::PoolReply;
+use zot_contents::{Holding, PoolReply};
 use zot_model::Call;
 use zot_names::RepoName;
 use zot_outside::Store;
@@ -83,6 +85,27 @@ impl Repos {
         ensures { self.new ≡ map.remove self.old name.now }
     {
         let _ = self.tree.remove(name);
+    }
+
+    /// Adds a holding to the repository of its name, as a blob that arrived at the moment. Where there is none, one is kept that isn't known. It fails only where memory runs out.
+    pub fn hold(&mut self, alloc: Global, holding: &Holding, moment: u64) -> Result<(), AllocError>
+        ensures { OnOk result (self.new ≡ with_holding moment self.old holding.now) }
+    {
+        self.keep(alloc, &holding.name)?;
+        self.hold_kept(holding, moment)
+    }
+
+    // Adds a holding to the repository of its name, which is kept.
+    fn hold_kept(&mut self, holding: &Holding, moment: u64) -> Result<(), AllocError>
+        requires { IsSome (map.get self.old holding.now.name) }
+        ensures found { OnOk result (table_at self.new holding.now.name ≡ with_found moment (table_at self.old holding.now.name) holding.now.digest holding.now.size) }
+        ensures sets { SetsTable self.old holding.now.name (table_at self.new holding.now.name) self.new }
+        ensures kept { IsSome (map.get self.new holding.now.name) }
+    {
+        match self.tree.get_mut(&holding.name) {
+            Some(repository) => repository.hold_found(&holding.digest, holding.size, moment),
+            None => unreachable!(),
+        }
     }
 
     /// Begins a call on the repository of a name that is kept, by `start`.
