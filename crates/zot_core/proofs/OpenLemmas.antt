@@ -360,14 +360,15 @@ module _ (objects : Option Objects) (Own : List ℕ → Type 0) (moment : ℕ) (
       own = subst (OwnNames Own) (sym made.is) (holdings_own Own moment (with_opened finite.empty made.opened) holdings own (opened_own Own finite.empty made.opened made.indexes (none_own Own)));
     }
 
-    -- the tables stand for the row that was opened
-    pub open_row_is : IfSome objects (λ told. IsOpenedRow told moment Own held (state_of tables held 0))
-    open_row_is = by objects made.opens made.stands where
-      by : (o : Option Objects) → IfSome o (λ told. OpensRow told Own moment (Ok made.opened)) → IfSome o (λ told. (name : List ℕ) → Own name → StandsFor told moment name (repo_among made.opened name)) → IfSome o (λ told. IsOpenedRow told moment Own held (state_of tables held 0))
-      by None opens stands = tt
-      by (Some told) opens stands = λ name is. record {
-        found = index_of name;
-        says = says_at told opens name (stands name is);
-        is = subst (IsOpenedWith moment (layout_repo (index_of name)) (under held name)) (sym (repo_is tables held 0 name))
-            (opened_found moment (index_of name) (is_index name) (sizes_after name (λ _. None) holdings) (table_at tables name) (found_at name) (under held name) (sizes_fit Own held name holdings is own are));
-      }
+  -- the tables stand for the row that was opened
+  pub open_state : AreOwn Own holdings → IfSome objects (λ told. (held : Holders) → AreAllOf Own held holdings → IsOpenedRow told moment Own held (state_of tables held 0))
+  open_state own = by objects made.opens made.stands where
+    by : (o : Option Objects) → IfSome o (λ told. OpensRow told Own moment (Ok made.opened)) → IfSome o (λ told. (name : List ℕ) → Own name → StandsFor told moment name (repo_among made.opened name))
+        → IfSome o (λ told. (held : Holders) → AreAllOf Own held holdings → IsOpenedRow told moment Own held (state_of tables held 0))
+    by None opens stands = tt
+    by (Some told) opens stands = λ held are name is. record {
+      found = index_of name;
+      says = says_at told opens name (stands name is);
+      is = subst (IsOpenedWith moment (layout_repo (index_of name)) (under held name)) (sym (repo_is tables held 0 name))
+          (opened_found moment (index_of name) (is_index name) (sizes_after name (λ _. None) holdings) (table_at tables name) (found_at name) (under held name) (sizes_fit Own held name holdings is own are));
+    }
