@@ -1,6 +1,6 @@
 -- What a pool's answer is to a row, and what is held before and after several of them.
-use Rattle.std.proofs.Common.{◌≡◌, ◌≢◌, ◌≤◌, ◌+◌, ◌-◌, ◌^◌, min, inl, inr, ℕ, Bool, true, false, cond, List, length, Option, Some, None, IfSome, refl, sym, ap, subst, ◌∙◌, arith}
-use Rattle.std.specs.Prelude.{IsSome, IsSomeAnd, sum}
+use Rattle.std.proofs.Common.{◌≡◌, ◌≤◌, inl, inr, ℕ, Bool, true, false, cond, List, Option, Some, None, IfSome, refl, sym, subst, ◌∙◌, arith}
+use Rattle.std.specs.Prelude.{IsSomeAnd, sum}
 use Rattle.zot_contents.proofs.HolderLemmas.{with_bytes_here}
 use Rattle.zot_contents.specs.Holders.{digest_in, name_in}
 use Rattle.zot_contents.specs.Pool.{Gives, Holders, IsPlain, MayAnswer, if_sound, mount_of}

@@ -1,19 +1,16 @@
 -- How a call on a row goes on from one answer of the pool to the next.
-use Rattle.std.proofs.Common.{◌≡◌, ◌≢◌, ◌⊎◌, ◌≤◌, ◌<◌, ◌+◌, inl, inr, ℕ, List, [], ◌∷◌, length, Option, Some, None, IfSome, is_some, refl, sym, ap, subst, ◌∙◌, arith}
-use Rattle.std.specs.Prelude.{IsSome, IsSomeAnd, sum}
+use Rattle.std.proofs.Common.{◌≡◌, ◌≢◌, ◌⊎◌, ◌≤◌, ◌<◌, ◌+◌, inl, inr, ℕ, List, Option, Some, None, refl, sym, ap, subst, ◌∙◌, arith}
 use Rattle.zot_contents.specs.Holders.{name_in}
 use Rattle.zot_contents.specs.Pool.{Holders}
 use Rattle.zot_contents.specs.declared.pool_call.PoolCall.{PoolCall}
 use Rattle.zot_contents.specs.declared.pool_call.PoolCall.TheVariants as pool
 use Rattle.zot_contents.specs.declared.pool_reply.PoolReply.{PoolReply}
 use Rattle.zot_contents.specs.declared.pool_reply.PoolReply.TheVariants as replies
-use Rattle.zot_contents.specs.declared.shard.DigestShard.{DigestShard}
 use Rattle.zot_model.specs.Mounts.{Asks as AsksMount}
 use Rattle.zot_model.specs.State.{RepoState}
 use Rattle.zot_model.specs.declared.call.Call.{Call}
 use Rattle.zot_model.specs.declared.call.Call.TheVariants as calls
 use Rattle.zot_model.specs.declared.request.Request.{Request}
-use Rattle.zot_model.specs.declared.row.RowCall.{RowCall}
 use Rattle.zot_model.specs.declared.row.RowCall.TheVariants.{Ask}
 use Rattle.zot_names.specs.Name.{IsName}
 use Rattle.zot_row.specs.Doing.{Doing}
@@ -26,8 +23,8 @@ use Rattle.zot_row.specs.declared.stage.Stage.TheVariants as stages
 use Rattle.zot_table.specs.Standing.{Holds}
 use Rattle.zot_table.specs.Tables.{RepoTable}
 use Rattle.zot_core.proofs.AskLemmas.{if_some_at, if_some_by, others_kept}
-use Rattle.zot_core.specs.RowGoing.{DoingRow, GoesOnRow, GoesRow, IsForCall, pending_of}
-use Rattle.zot_core.specs.Rows.{AgreesRow, Tables, TakesRow, state_of, table_at, under}
+use Rattle.zot_core.specs.RowGoing.{GoesOnRow, GoesRow, IsForCall, pending_of}
+use Rattle.zot_core.specs.Rows.{Tables, TakesRow, state_of, table_at, under}
 use Rattle.zot_core.specs.Shards.{AnswersAsked, IsLate, IsTaken, KeepsOtherNames, Led}
 use Rattle.zot_core.specs.declared.row_next.RowNext.{RowNext}
 use Rattle.zot_core.specs.declared.row_next.RowNext.TheVariants as nexts

@@ -1,32 +1,24 @@
 -- A call on a row, from its beginning over each answer of the pool to its own answer.
-use Rattle.std.proofs.Common.{◌≡◌, ◌≢◌, ◌⊎◌, ◌≤◌, ◌<◌, ◌+◌, inl, inr, ℕ, List, [], ◌∷◌, Option, Some, None, IfSome, refl, sym, ap, subst, ◌∙◌, arith}
-use Rattle.std.specs.Prelude.{IsSome, IsSomeAnd, sum}
+use Rattle.std.proofs.Common.{◌≡◌, ◌⊎◌, ◌≤◌, ◌<◌, ◌+◌, inl, inr, ℕ, List, Option, Some, None, IfSome, refl, sym, ap, subst, ◌∙◌, arith}
+use Rattle.std.specs.Prelude.{IsSomeAnd, sum}
 use Rattle.zot_contents.specs.Pool.{Holders}
 use Rattle.zot_contents.specs.declared.pool_call.PoolCall.{PoolCall}
 use Rattle.zot_contents.specs.declared.pool_reply.PoolReply.{PoolReply}
 use Rattle.zot_contents.specs.declared.pool_reply.PoolReply.TheVariants as replies
 use Rattle.zot_contents.specs.declared.shard.DigestShard.{DigestShard}
-use Rattle.zot_model.specs.History.{Run, Step}
-use Rattle.zot_model.specs.Plain.{MayAnswer}
-use Rattle.zot_model.specs.Refusals.{storage_fault}
-use Rattle.zot_model.specs.State.{AreSame, RowState}
-use Rattle.zot_model.specs.declared.reply.Reply.{Reply}
 use Rattle.zot_model.specs.declared.request.Request.{Request}
 use Rattle.zot_model.specs.declared.row.RowCall.{RowCall}
 use Rattle.zot_model.specs.declared.row.RowCall.TheVariants.{Ask}
-use Rattle.zot_model.specs.declared.row.RowReply.{RowReply}
 use Rattle.zot_model.specs.declared.row.RowReply.TheVariants as answers
-use Rattle.zot_names.specs.Name.{IsName}
 use Rattle.zot_outside.specs.Faults.{Rose}
 use Rattle.zot_outside.specs.Objects.{Objects}
 use Rattle.zot_outside.specs.declared.stores.store.Store.{Ghosts}
-use Rattle.zot_pool.specs.Pools.{BothHold, faults_of, holds, objects_of}
-use Rattle.zot_row.specs.Stages.{pending}
-use Rattle.zot_core.proofs.AskLemmas.{both_each, both_itself, both_then, if_some_at, if_some_by, rose_since, some_and_at}
+use Rattle.zot_pool.specs.Pools.{faults_of, holds, objects_of}
+use Rattle.zot_core.proofs.AskLemmas.{both_itself, both_then, if_some_at, if_some_by, rose_since, some_and_at}
 use Rattle.zot_core.proofs.DriveLemmas.{led_on}
-use Rattle.zot_core.specs.RowGoing.{BeginsRow, FitsNext, GoesOnRow, GoesRow, HasCause, HasCauseAfter, IsForCall, IsOnOwn, IsOwn, KeepsBeside, OnDone, OnName, Rests, entry_for, pending_of}
-use Rattle.zot_core.specs.Rows.{AgreesRow, NoneFresh, Tables, state_of}
-use Rattle.zot_core.specs.Shards.{AnswersAsked, Asked, Drives, HasAnswerCause, HasCauseSoFar, IsTaken, IsUnfailed, KeepsOtherNames, Led, StepsRow}
+use Rattle.zot_core.specs.RowGoing.{BeginsRow, FitsNext, GoesOnRow, HasCause, HasCauseAfter, IsForCall, IsOnOwn, IsOwn, KeepsBeside, OnDone, OnName, Rests, pending_of}
+use Rattle.zot_core.specs.Rows.{AgreesRow, NoneFresh}
+use Rattle.zot_core.specs.Shards.{AnswersAsked, Asked, Drives, HasCauseSoFar, IsTaken, KeepsOtherNames, Led}
 use Rattle.zot_core.specs.declared.row_config.RowConfig.{RowConfig}
 use Rattle.zot_core.specs.declared.row_core.RowCore.{RowCore}
 use Rattle.zot_core.specs.declared.row_next.RowNext.{RowNext}

@@ -1,5 +1,5 @@
 -- What a call on a row does, where a pool of digests answers what it asks.
-use Rattle.std.specs.Prelude.{◌≡◌, ◌≢◌, ◌<◌, ◌≤◌, ◌⊎◌, ℕ, ◌+◌, Bool, false, List, [], ◌∷◌, Option, Some, None, IfSome, is_some, sum, ⊤}
+use Rattle.std.specs.Prelude.{◌≡◌, ◌≢◌, ◌<◌, ◌≤◌, ◌⊎◌, ℕ, ◌+◌, false, List, [], ◌∷◌, Option, Some, None, IfSome, is_some, sum, ⊤}
 use Rattle.zot_contents.specs.Holders.{name_in}
 use Rattle.zot_contents.specs.Pool.{Holders}
 use Rattle.zot_contents.specs.declared.pool_call.PoolCall.{PoolCall}
@@ -11,7 +11,6 @@ use Rattle.zot_digest.specs.Digest.{IsDigest}
 use Rattle.zot_model.specs.History.{Run}
 use Rattle.zot_model.specs.Mounts.{Asks as AsksMount}
 use Rattle.zot_model.specs.Refusals.{storage_fault}
-use Rattle.zot_model.specs.State.{RowState}
 use Rattle.zot_model.specs.declared.reply.Reply.{Reply}
 use Rattle.zot_model.specs.declared.row.RowCall.{RowCall}
 use Rattle.zot_model.specs.declared.row.RowCall.TheVariants.{Ask}

@@ -1,12 +1,11 @@
 //! A row with the pool that it asks.
-ghost use Rattle.std.specs.Prelude.{◌≡◌, ◌+◌, None};
+ghost use Rattle.std.specs.Prelude.{◌≡◌, ◌+◌, None, sum};
 ghost use Rattle.std.proofs.Props.{props};
 ghost use Rattle.zot_core.specs.RowGoing.{IsOnOwn, IsOwn, KeepsBeside, OnName};
 ghost use Rattle.zot_core.specs.Rows.{AgreesRow, NoneFresh};
 ghost use Rattle.zot_core.specs.Shards.{HasAnswerCause, IsIdle, IsUnfailed, KeepsOtherNames, StepsRow};
 ghost use Rattle.zot_model.specs.Fits.{IsFitting};
 ghost use Rattle.zot_pool.specs.Pools.{AreDeduped, AreTightPool, BothHold, faults_of, holds, objects_of};
-ghost use Rattle.std.specs.List.{sum};
 
 use crate::driving::drive;
 use crate::row_core::RowCore;

@@ -1,4 +1,4 @@
-use Rattle.std.proofs.Common.{◌≡◌, List, Option, ℕ, sym, subst, ◌∙◌}
+use Rattle.std.proofs.Common.{List, ℕ, sym, subst}
 use Rattle.zot_model.specs.declared.row.RowCall.{RowCall}
 use Rattle.zot_core.specs.RowGoing.{BeginsRow, FitsNext, IsOwn, KeepsBeside, MountsNext, Rests}
 use Rattle.zot_core.proofs.RowTurnLemmas.{filled_idle, filled_then, on_name, own_of, placed_left}
