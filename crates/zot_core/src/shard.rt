@@ -34,7 +34,7 @@ impl<S: Store> RepoShard<S> {
         RepoShard { core, failed: 0 }
     }
 
-    /// Answers a call on a repository of the row, at a moment in seconds, as the plain registry does, or for want of memory, or because the storage failed. Where what the pool holds fits what the row keeps, it does so after the call as well, and no other repository's bytes have changed.
+    /// Answers a call on a repository of the row, at a moment in seconds, as the plain registry does, or for want of memory, or because the storage failed. Where what the pool holds fits what the row keeps, it does so after the call as well. No other repository's bytes change.
     ///
     /// STORAGE_FAULT comes only where the part failed or a part of the pool did, and NO_MEMORY where memory ran out.
     pub fn step(
@@ -47,8 +47,7 @@ impl<S: Store> RepoShard<S> {
         requires { IsOnOwn (IsOwn self.old.core.config self.old.core.row) call.now }
         ensures answer { BothHold (holds (objects_of pool.old.shards.items)) (holds (objects_of pool.new.shards.items)) (λ held behind. AgreesRow (IsOwn self.old.core.config self.old.core.row) self.old.core.repos held
             → StepsRow (IsOwn self.old.core.config self.old.core.row) self.old.core.repos held (S.faults self.old.core.part + self.old.failed) call.now moment result self.new.core.repos behind (S.faults self.new.core.part + self.new.failed)) }
-        ensures others { BothHold (holds (objects_of pool.old.shards.items)) (holds (objects_of pool.new.shards.items)) (λ held behind. AgreesRow (IsOwn self.old.core.config self.old.core.row) self.old.core.repos held
-            → OnName call.now (λ name. KeepsOtherNames name held behind)) }
+        ensures others { BothHold (holds (objects_of pool.old.shards.items)) (holds (objects_of pool.new.shards.items)) (λ held behind. OnName call.now (λ name. KeepsOtherNames name held behind)) }
         ensures fault { HasAnswerCause result (S.faults self.old.core.part) (S.faults self.new.core.part) (sum (faults_of pool.old.shards.items)) (sum (faults_of pool.new.shards.items)) }
         ensures unfailed { BothHold (holds (objects_of pool.old.shards.items)) (holds (objects_of pool.new.shards.items)) (λ held behind. AgreesRow (IsOwn self.old.core.config self.old.core.row) self.old.core.repos held
             → IsUnfailed result → self.new.failed ≡ self.old.failed) }
