@@ -59,6 +59,7 @@ abbrev pub entry_by : Request → Reply → Option (List ℕ) → ℕ → ℕ �
 entry_by request reply None moment faults = entry_of request reply moment faults
 entry_by request reply (Some bytes) moment faults = mount_entry request reply bytes moment faults
 
+-- the same of a call on a row
 abbrev pub entry_for : RowCall → RowReply → Option (List ℕ) → ℕ → ℕ → Entry
 entry_for (Ask request) (answers.Reply reply) taken moment faults = entry_by request reply taken moment faults
 
@@ -129,6 +130,7 @@ abbrev pub next_of : Turn → RowNext
 next_of (turns.Done reply) = nexts.Done (answers.Reply reply)
 next_of (turns.Asks asked stage) = nexts.Pool asked
 
+-- the call that waits then, if one does
 abbrev pub waiting_of : Turn → List ℕ → ℕ → Option Waiting
 waiting_of (turns.Done reply) name moment = None
 waiting_of (turns.Asks asked stage) name moment = Some (record { name = name; stage = stage; moment = moment })

@@ -58,6 +58,7 @@ pub record HasShardCause (reply : Reply) (before after pooled later : ℕ) : Typ
   pub failed : reply ≡ storage_fault → Rose before after ⊎ Rose pooled later
   pub kept : reply ≢ storage_fault → after ≡ before
 
+-- the same of the row's answer
 abbrev pub HasAnswerCause : RowReply → ℕ → ℕ → ℕ → ℕ → Type 0
 HasAnswerCause (answers.Reply reply) before after pooled later = HasShardCause reply before after pooled later
 
@@ -103,6 +104,7 @@ pub record Led (Own : List ℕ → Type 0) (call : RowCall) (moment : ℕ) (old 
   pub goes : GoesRow Own next waiting taken (state_of old held before) call moment new behind after
   pub first : (behind ≡ held) ⊎ IsLate call waiting
 
+-- the faults so far: none of the part while the call waits
 abbrev pub HasCauseSoFar : RowNext → ℕ → ℕ → ℕ → ℕ → Type 0
 HasCauseSoFar (nexts.Done answer) before after pooled later = HasAnswerCause answer before after pooled later
 HasCauseSoFar (nexts.Pool asked) before after pooled later = after ≡ before
