@@ -1,30 +1,31 @@
 -- Turns that leave the part alone.
-use Rattle.std.proofs.Common.{◌≡◌, ◌≢◌, ◌⊎◌, inl, inr, ℕ, ◌+◌, Bool, List, [], Option, Some, None, unwrap_or, refl, sym, ap, subst, ◌∙◌}
+use Rattle.std.proofs.Common.{◌≡◌, ◌≢◌, inl, inr, ℕ, ◌+◌, List, [], Option, None, unwrap_or, refl, sym, ap, subst, ◌∙◌}
 use Rattle.std.specs.FinMap as finite
 use Rattle.zot_contents.specs.declared.pool_call.PoolCall.{PoolCall}
 use Rattle.zot_layout.specs.Stands.{AreAlike}
 use Rattle.zot_maps.proofs.Maps.{byte_order, get_elsewhere, get_here}
 use Rattle.zot_model.proofs.FitLemmas.{answer_fits, common_fits}
 use Rattle.zot_model.specs.Fits.{FitsCall}
-use Rattle.zot_model.specs.Mounts.{Asks}
-use Rattle.zot_model.specs.Plain.{IsPlain, LacksMemory, MayAnswer, Stay}
+use Rattle.zot_model.specs.Plain.{IsPlain, LacksMemory, MayAnswer}
 use Rattle.zot_model.specs.Refusals.{no_memory, storage_fault}
 use Rattle.zot_model.specs.State.{Becomes, RepoState, RowState, fresh, repo_at}
+use Rattle.zot_model.specs.Uploads.{UploadTable}
 use Rattle.zot_model.specs.declared.call.Call.{Call}
 use Rattle.zot_model.specs.declared.call.Call.TheVariants as calls
 use Rattle.zot_model.specs.declared.code.Code.TheVariants.{NoMemory, StorageFault}
 use Rattle.zot_model.specs.declared.reply.Reply.{Reply}
 use Rattle.zot_outside.specs.Objects.{Objects}
 use Rattle.zot_repo.specs.Replies.{MayGive}
-use Rattle.zot_row.proofs.EndLemmas.{in_want, plainly}
 use Rattle.zot_row.proofs.PartLemmas.{quiet_others, quiet_stands}
 use Rattle.zot_row.specs.Doing.{Doing}
-use Rattle.zot_row.specs.Going.{FitsTurn, Goes, HasPartCause, HasTurnCause, IsCalm, MountsFirst, Quietly, Starts, kept_of}
+use Rattle.zot_row.specs.Going.{HasTurnCause, IsCalm, MountsFirst, NeverMounts, Quietly, Starts, kept_of}
 use Rattle.zot_row.specs.Stages.{IsFor}
 use Rattle.zot_row.specs.Turns.{EndsPlainly}
 use Rattle.zot_row.specs.declared.stage.Stage.{Stage}
 use Rattle.zot_row.specs.declared.turn.Turn.{Turn}
 use Rattle.zot_row.specs.declared.turn.Turn.TheVariants as turns
+use Rattle.zot_table.proofs.StandingLemmas.{uploads_agree}
+use Rattle.zot_table.specs.Changes.{with_uploads}
 use Rattle.zot_table.specs.Standing.{Agrees, Holds, repo_of}
 use Rattle.zot_table.specs.Tables.{RepoTable}
 
@@ -81,8 +82,9 @@ quiet_starts call moment name old result new objects faults mount quiet = record
 }
 
 -- a call that is no mount
-pub no_mount : (call : Call) (name : List ℕ) (result : Turn) → ((digest from : List ℕ) → Asks call digest from → ⊥) → MountsFirst call name result
-no_mount call name result never digest from asks = absurd (never digest from asks)
+pub quiet_never : (call : Call) (moment : ℕ) (name : List ℕ) (old : RepoTable) (result : Turn) (new : RepoTable) (objects : Option Objects) (faults : ℕ) → NeverMounts call → Quietly call moment name old result new
+    → Starts call moment name old objects faults result new objects faults
+quiet_never call moment name old result new objects faults never quiet = quiet_starts call moment name old result new objects faults (λ digest from asks. absurd (never digest from asks)) quiet
 
 -- a call that is answered, with the table as it is
 pub quiet_done : (call : Call) (moment : ℕ) (name : List ℕ) (table : RepoTable) (reply : Reply) → ((holds : Holds) → Agrees table holds → MayGive moment (repo_of table holds) call reply (repo_of table holds)) → FitsCall call reply → reply ≢ storage_fault
@@ -106,4 +108,17 @@ quiet_asks call moment name table asked stage fits does = record {
   alike = record { known = refl; manifests = refl; tags = λ _. refl };
   fits = fits;
   calm = tt;
+}
+
+-- a call that is answered from the uploads alone
+pub quiet_uploads : (call : Call) (moment : ℕ) (name : List ℕ) (old new : RepoTable) (reply : Reply) (sessions : UploadTable) → call ≢ calls.Base → reply ≢ storage_fault → new ≡ with_uploads old sessions
+    → ((holds : Holds) → MayGive moment (repo_of old holds) call reply (repo_of new holds)) → Quietly call moment name old (turns.Done reply) new
+quiet_uploads call moment name old new reply sessions named calm is gives = record {
+  answer = λ holds faults agrees. (
+    subst (λ (t : RepoTable). Agrees t holds) (sym is) (uploads_agree old holds sessions agrees),
+    may_end moment (repo_of old holds) (repo_of new holds) call reply faults faults (gives holds) refl,
+  );
+  alike = subst (λ (t : RepoTable). AreAlike (kept_of old) (kept_of t)) (sym is) (record { known = refl; manifests = refl; tags = λ _. refl });
+  fits = given_fits moment (repo_of old (λ _. None)) (repo_of new (λ _. None)) call reply named (gives (λ _. None));
+  calm = calm;
 }
