@@ -1,13 +1,11 @@
 -- What a call leads to once the pool was asked to hold its bytes.
-use Rattle.std.proofs.Common.{◌≡◌, ◌≢◌, ◌⊎◌, ◌≤◌, inl, inr, ℕ, ◌+◌, Bool, true, false, List, length, Option, Some, None, refl, sym, ap, subst, ◌∙◌}
-use Rattle.std.specs.Prelude.{Result, Ok, Err}
+use Rattle.std.proofs.Common.{◌≡◌, ◌≢◌, ◌⊎◌, inl, inr, ℕ, ◌+◌, true, false, List, length, Option, Some, None, refl, sym, ap, subst, ◌∙◌}
+use Rattle.std.specs.Prelude.{Err}
 use Rattle.std.specs.FinMap as finite
 use Rattle.std.proofs.lemmas.Bool.{true≢false}
 use Rattle.zot_contents.specs.declared.pool_call.PoolCall.{PoolCall}
-use Rattle.zot_contents.specs.declared.pool_call.PoolCall.TheVariants as pool
 use Rattle.zot_contents.specs.declared.pool_reply.PoolReply.{PoolReply}
 use Rattle.zot_contents.specs.declared.pool_reply.PoolReply.TheVariants as replies
-use Rattle.zot_layout.specs.Stands.{AreAlike}
 use Rattle.zot_layout.specs.State.{as_written}
 use Rattle.zot_layout.specs.Writing.{PutsIndex, Told}
 use Rattle.zot_manifests.specs.declared.checked.Checked.{Checked}
@@ -15,17 +13,15 @@ use Rattle.zot_model.specs.Among.{IsAmong}
 use Rattle.zot_model.specs.Fits.{FitsCall}
 use Rattle.zot_model.specs.Outcomes.{with_blob}
 use Rattle.zot_model.specs.Plain.{leavings}
-use Rattle.zot_model.specs.Refusals.{no_memory, storage_fault}
+use Rattle.zot_model.specs.Refusals.{no_memory}
 use Rattle.zot_model.specs.State.{RepoState, made_known}
 use Rattle.zot_model.specs.Uploads.{without}
 use Rattle.zot_model.specs.declared.call.Call.{Call}
-use Rattle.zot_model.specs.declared.call.Call.TheVariants as calls
 use Rattle.zot_model.specs.declared.reply.Reply.{Reply}
 use Rattle.zot_model.specs.declared.reply.Reply.TheVariants.{BlobMade}
 use Rattle.zot_outside.specs.Faults.{HasStoreCause}
 use Rattle.zot_outside.specs.Objects.{Objects}
 use Rattle.zot_outside.specs.declared.stores.store_error.StoreError.{StoreError}
-use Rattle.zot_outside.specs.declared.stores.store_error.StoreError.TheVariants.{Missing, Failed, NoMemory}
 use Rattle.zot_repo.specs.Replies.{MayGive, made_reply, with_checked as plain_with_checked}
 use Rattle.zot_repo.specs.Repository.{IsOf}
 use Rattle.zot_row.proofs.EndLemmas.{attach_gives, attach_keeps, refused_ends, stay_both}
@@ -33,11 +29,10 @@ use Rattle.zot_row.proofs.PartLemmas.{index_stands, put_others, quiet_others, qu
 use Rattle.zot_row.proofs.QuietLemmas.{may_end, memory_fits}
 use Rattle.zot_row.proofs.ResumeLemmas.{given_resumes, named, ungiven_resumes}
 use Rattle.zot_row.proofs.StartLemmas.{error_rose, error_stayed, refusal_cause, refusal_fits}
-use Rattle.zot_row.specs.Doing.{ChecksManifest, Doing, EndsWith, StoresBytes}
-use Rattle.zot_row.specs.Going.{HasEitherCause, KeepsOthers, KeepsStanding, Resumes, ResumesQuietly, kept_of}
+use Rattle.zot_row.specs.Doing.{ChecksManifest, Doing}
+use Rattle.zot_row.specs.Going.{Resumes, ResumesQuietly}
 use Rattle.zot_row.specs.Refusals.{pool_refusal, store_refusal}
-use Rattle.zot_row.specs.Stages.{IsFor}
-use Rattle.zot_row.specs.Turns.{Counts, EndsPlainly, Takes, given}
+use Rattle.zot_row.specs.Turns.{EndsPlainly, Takes, given}
 use Rattle.zot_row.specs.declared.stage.Attaching.{Attaching}
 use Rattle.zot_row.specs.declared.stage.Attaching.TheVariants as attaching
 use Rattle.zot_row.specs.declared.stage.Stage.{Stage}

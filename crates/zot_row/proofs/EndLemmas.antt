@@ -1,21 +1,21 @@
 -- How a call ends that can't go on, and what the pool's answers leave.
-use Rattle.std.proofs.Common.{◌≡◌, ◌≢◌, ◌⊎◌, ◌≤◌, ◌+◌, ◌-◌, ◌^◌, min, ℕ, Bool, true, false, List, Option, Some, None, inl, inr, refl, sym, ap, subst, ◌∙◌, arith}
+use Rattle.std.proofs.Common.{◌≡◌, ◌≢◌, ◌≤◌, ◌+◌, ℕ, Bool, List, None, inl, inr, refl, ap, ◌∙◌, arith}
 use Rattle.zot_contents.specs.declared.pool_call.PoolCall.{PoolCall}
 use Rattle.zot_contents.specs.declared.pool_call.PoolCall.TheVariants as pool
 use Rattle.zot_contents.specs.declared.pool_reply.PoolReply.{PoolReply}
 use Rattle.zot_contents.specs.declared.pool_reply.PoolReply.TheVariants as replies
 use Rattle.zot_model.specs.Among.{IsAmong}
-use Rattle.zot_model.specs.Plain.{FailsToStore, IsPlain, LacksMemory, Rise, Stay, leavings}
+use Rattle.zot_model.specs.Plain.{IsPlain, Rise, leavings}
 use Rattle.zot_model.specs.Refusals.{no_memory, storage_fault}
 use Rattle.zot_model.specs.State.{RepoState}
 use Rattle.zot_model.specs.declared.call.Call.{Call}
 use Rattle.zot_model.specs.declared.reply.Reply.{Reply}
-use Rattle.zot_outside.specs.Faults.{HasStoreCause, Rose}
+use Rattle.zot_outside.specs.Faults.{Rose}
 use Rattle.zot_outside.specs.declared.stores.store_error.StoreError.{StoreError}
 use Rattle.zot_outside.specs.declared.stores.store_error.StoreError.TheVariants.{Missing, Failed, NoMemory}
 use Rattle.zot_row.specs.Refusals.{pool_refusal, store_refusal}
 use Rattle.zot_row.specs.Turns.{Counts, EndsPlainly, Takes, given}
-use Rattle.zot_table.specs.Standing.{AreEqual, Holds, Sets}
+use Rattle.zot_table.specs.Standing.{AreEqual, Holds}
 
 -- ---- what the pool's answers leave
 

@@ -1,6 +1,6 @@
 -- A blob that a POST takes over from another repository.
-use Rattle.std.proofs.Common.{◌≡◌, ◌≢◌, ◌⊎◌, ◌≤◌, ◌<◌, inl, inr, ℕ, ◌+◌, Bool, true, false, not, List, [], length, Option, Some, None, unwrap_or, refl, sym, ap, subst, ◌∙◌, arith}
-use Rattle.std.specs.Prelude.{IsSomeAnd, if◌then◌else◌, Result, Ok, Err}
+use Rattle.std.proofs.Common.{◌≡◌, ◌≢◌, ◌⊎◌, inl, inr, ℕ, ◌+◌, Bool, true, false, not, List, [], length, Option, Some, None, unwrap_or, refl, sym, ap, subst, ◌∙◌, arith}
+use Rattle.std.specs.Prelude.{IsSomeAnd, if◌then◌else◌}
 use Rattle.std.specs.FinMap as finite
 use Rattle.std.proofs.lemmas.Bool.{true≢false}
 use Rattle.zot_contents.specs.declared.pool_call.PoolCall.{PoolCall}
@@ -8,13 +8,11 @@ use Rattle.zot_contents.specs.declared.pool_call.PoolCall.TheVariants as pool
 use Rattle.zot_contents.specs.declared.pool_reply.PoolReply.{PoolReply}
 use Rattle.zot_contents.specs.declared.pool_reply.PoolReply.TheVariants as replies
 use Rattle.zot_digest.specs.Digest.{IsSound}
-use Rattle.zot_layout.specs.Stands.{AreAlike}
 use Rattle.zot_model.specs.Among.{IsAmong}
 use Rattle.zot_model.specs.Fits.{FitsCall}
-use Rattle.zot_model.specs.Mounts.{Asks, TakesOver}
-use Rattle.zot_model.specs.Outcomes.{with_blob}
-use Rattle.zot_model.specs.Plain.{Stay, leavings}
-use Rattle.zot_model.specs.PlainUploads.{with_sessions, with_upload}
+use Rattle.zot_model.specs.Mounts.{Asks}
+use Rattle.zot_model.specs.Plain.{leavings}
+use Rattle.zot_model.specs.PlainUploads.{with_sessions}
 use Rattle.zot_model.specs.Refusals.{no_memory, refusal, storage_fault}
 use Rattle.zot_model.specs.State.{RepoState, made_known}
 use Rattle.zot_model.specs.Uploads.{UploadTable, is_full, with_new}
@@ -24,9 +22,7 @@ use Rattle.zot_model.specs.declared.code.Code.TheVariants.{DigestInvalid, TooMan
 use Rattle.zot_model.specs.declared.mount.Mount.{Mount}
 use Rattle.zot_model.specs.declared.reply.Reply.{Reply}
 use Rattle.zot_model.specs.declared.reply.Reply.TheVariants.{BlobMade, Session}
-use Rattle.zot_outside.specs.Faults.{HasStoreCause}
 use Rattle.zot_outside.specs.Objects.{Objects}
-use Rattle.zot_outside.specs.declared.stores.store_error.StoreError.{StoreError}
 use Rattle.zot_repo.proofs.ReplyLemmas.{begun, not_begun}
 use Rattle.zot_repo.specs.Replies.{MayGive}
 use Rattle.zot_row.proofs.EndLemmas.{in_want, mount_keeps, refused_ends, stay_both, unless_size}
@@ -35,9 +31,9 @@ use Rattle.zot_row.proofs.PostLemmas.{post_ends}
 use Rattle.zot_row.proofs.QuietLemmas.{may_end, memory_fits}
 use Rattle.zot_row.proofs.ResumeLemmas.{named, ungiven_resumes}
 use Rattle.zot_row.proofs.StartLemmas.{error_rose, error_stayed, refusal_cause, refusal_fits}
-use Rattle.zot_row.specs.Doing.{Doing, EndsWith, MountsBlob}
-use Rattle.zot_row.specs.Going.{AsksToAttach, AsksToTake, HasEitherCause, KeepsOthers, KeepsStanding, Opens, Resumes, ResumesQuietly, Starts, TakesBack, kept_of}
-use Rattle.zot_row.specs.Refusals.{pool_refusal, store_refusal}
+use Rattle.zot_row.specs.Doing.{Doing, EndsWith}
+use Rattle.zot_row.specs.Going.{AsksToAttach, AsksToTake, HasEitherCause, KeepsOthers, KeepsStanding, Opens, Resumes, ResumesQuietly, Starts, TakesBack}
+use Rattle.zot_row.specs.Refusals.{pool_refusal}
 use Rattle.zot_row.specs.Stages.{IsFor, IsRest, Mounts}
 use Rattle.zot_row.specs.Turns.{Counts, Ends, EndsPlainly, IsGiven, Takes, given}
 use Rattle.zot_row.specs.declared.stage.Attaching.TheVariants as attaching
@@ -47,10 +43,10 @@ use Rattle.zot_row.specs.declared.stage.Stage.TheVariants as stages
 use Rattle.zot_row.specs.declared.turn.Turn.{Turn}
 use Rattle.zot_row.specs.declared.turn.Turn.TheVariants as turns
 use Rattle.zot_table.proofs.SinceLemmas.{blob_since, forget_since, settle_since}
-use Rattle.zot_table.proofs.StandingLemmas.{fill_agrees, know_agrees, know_is, known_same, reserve_agrees, reserve_has_room, reserve_is, same_agrees, same_is, settle_agrees, uploads_agree}
+use Rattle.zot_table.proofs.StandingLemmas.{fill_agrees, know_agrees, know_is, reserve_agrees, reserve_has_room, reserve_is, same_agrees, same_is, settle_agrees, uploads_agree}
 use Rattle.zot_table.proofs.StepLemmas.{post_unsound}
 use Rattle.zot_table.specs.Changes.{known_as, reserved, settled, with_entry, with_uploads}
-use Rattle.zot_table.specs.Standing.{Agrees, AreEqual, Holds, Sets, repo_of}
+use Rattle.zot_table.specs.Standing.{Agrees, AreEqual, Holds, repo_of}
 use Rattle.zot_table.specs.Tables.{RepoTable}
 use Rattle.zot_uploads.specs.declared.upload_error.UploadError.TheVariants as errors
 

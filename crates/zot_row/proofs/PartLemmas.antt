@@ -1,19 +1,17 @@
 -- What the part stands for after a turn.
-use Rattle.std.proofs.Common.{◌≡◌, ◌≢◌, ℕ, Bool, true, false, List, Option, Some, None, is_some, refl, sym, ap, subst, ◌∙◌}
+use Rattle.std.proofs.Common.{◌≡◌, ℕ, Bool, true, false, List, Option, Some, None, is_some, refl, sym, ap, subst, ◌∙◌}
 use Rattle.std.specs.Prelude.{IfSome, option_map}
 use Rattle.std.specs.FinMap as finite
 use Rattle.std.specs.FinMap.{get-empty}
 use Rattle.std.proofs.lemmas.Bool.{true≢false}
 use Rattle.zot_digest.specs.ByteMap.{ByteMap, byte_cmp}
 use Rattle.zot_layout.proofs.StandsLemmas.{apart_paths, one_index, same_layout, stands_alike, without_sizes}
-use Rattle.zot_layout.proofs.ToldLemmas.{told_so}
 use Rattle.zot_layout.proofs.WalkLemmas.{one_marker}
-use Rattle.zot_layout.proofs.WritingLemmas.{known_for_nothing, stands_known, stands_unknown}
+use Rattle.zot_layout.proofs.WritingLemmas.{stands_known, stands_unknown}
 use Rattle.zot_layout.specs.Paths.{index_path, marker_path}
-use Rattle.zot_layout.specs.Rows.{layout_of}
 use Rattle.zot_layout.specs.Stands.{AreAlike, StandsFor, opened_repo, repo_of as layout_repo, without_pulls}
 use Rattle.zot_layout.specs.State.{as_written}
-use Rattle.zot_layout.specs.Writing.{IsKnown, IsUnknown, KeepsElsewhere, KeepsLayouts, PutsIndex, SetsLayout, Told}
+use Rattle.zot_layout.specs.Writing.{IsUnknown, KeepsElsewhere, KeepsLayouts, PutsIndex, SetsLayout, Told}
 use Rattle.zot_layout.specs.declared.index_state.IndexState.{IndexState}
 use Rattle.zot_manifests.proofs.TableLemmas.{get_plain, plain_empty}
 use Rattle.zot_manifests.specs.Table.{Table, empty_table, plain_manifest, plain_manifests}
@@ -22,7 +20,7 @@ use Rattle.zot_media.specs.declared.reference.Reference.{Reference}
 use Rattle.zot_media.specs.declared.reference.Reference.TheVariants as by
 use Rattle.zot_model.specs.State.{RepoState, StoredTag, fresh}
 use Rattle.zot_outside.specs.Objects.{Objects}
-use Rattle.zot_row.specs.Going.{KeepsOthers, KeepsStanding, LeavesOthers, StandsAt, kept_of}
+use Rattle.zot_row.specs.Going.{KeepsOthers, KeepsStanding, LeavesOthers, kept_of}
 use Rattle.zot_table.proofs.IndexLemmas.{index_alike}
 use Rattle.zot_table.specs.Changes.{known_as, without_named}
 use Rattle.zot_table.specs.Standing.{Holds, repo_of}

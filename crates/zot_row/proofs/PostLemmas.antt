@@ -1,12 +1,11 @@
 -- POST of a blob that is given whole, and of a new upload.
-use Rattle.std.proofs.Common.{◌≡◌, ◌≢◌, ◌⊎◌, ◌≤◌, inl, inr, ℕ, ◌+◌, Bool, true, false, List, Option, Some, None, refl, sym, ap, subst, ◌∙◌}
+use Rattle.std.proofs.Common.{◌≡◌, inl, inr, ℕ, ◌+◌, true, false, List, Option, Some, None, refl, sym, ap, subst}
 use Rattle.zot_digest.specs.Digest.{IsSound}
 use Rattle.zot_model.specs.Outcomes.{with_blob}
 use Rattle.zot_model.specs.PlainUploads.{with_upload}
-use Rattle.zot_model.specs.Refusals.{no_memory, refusal}
-use Rattle.zot_model.specs.State.{RepoState, made_known}
+use Rattle.zot_model.specs.Refusals.{refusal}
+use Rattle.zot_model.specs.State.{RepoState}
 use Rattle.zot_model.specs.Uploads.{is_full, with_new}
-use Rattle.zot_model.specs.declared.call.Call.{Call}
 use Rattle.zot_model.specs.declared.call.Call.TheVariants as calls
 use Rattle.zot_model.specs.declared.code.Code.TheVariants.{DigestInvalid, TooManyRequests}
 use Rattle.zot_model.specs.declared.mount.Mount.{Mount}
@@ -14,7 +13,6 @@ use Rattle.zot_model.specs.declared.reply.Reply.{Reply}
 use Rattle.zot_model.specs.declared.reply.Reply.TheVariants.{BlobMade, Session}
 use Rattle.zot_outside.specs.Objects.{Objects}
 use Rattle.zot_repo.proofs.ReplyLemmas.{begun, not_begun}
-use Rattle.zot_repo.specs.Replies.{MayGive}
 use Rattle.zot_row.proofs.PartLemmas.{quiet_stands, stands_then}
 use Rattle.zot_row.proofs.QuietLemmas.{may_end, quiet_done}
 use Rattle.zot_row.proofs.StartLemmas.{known_want}
@@ -25,7 +23,7 @@ use Rattle.zot_row.specs.declared.turn.Turn.TheVariants as turns
 use Rattle.zot_table.proofs.StandingLemmas.{know_agrees, uploads_agree}
 use Rattle.zot_table.proofs.StepLemmas.{post_made, post_unsound}
 use Rattle.zot_table.specs.Changes.{known_as, with_uploads}
-use Rattle.zot_table.specs.Standing.{Agrees, Holds, repo_of}
+use Rattle.zot_table.specs.Standing.{repo_of}
 use Rattle.zot_table.specs.Tables.{RepoTable}
 use Rattle.zot_uploads.specs.declared.upload_error.UploadError.TheVariants as errors
 

@@ -1,12 +1,12 @@
 -- Turns that leave the part alone.
-use Rattle.std.proofs.Common.{◌≡◌, ◌≢◌, ◌⊎◌, inl, inr, ℕ, ◌+◌, Bool, List, [], Option, Some, None, unwrap_or, refl, sym, ap, subst, ◌∙◌}
+use Rattle.std.proofs.Common.{◌≡◌, ◌≢◌, inl, inr, ℕ, ◌+◌, List, [], Option, None, unwrap_or, refl, sym, ap, subst, ◌∙◌}
 use Rattle.std.specs.FinMap as finite
 use Rattle.zot_contents.specs.declared.pool_call.PoolCall.{PoolCall}
 use Rattle.zot_layout.specs.Stands.{AreAlike}
 use Rattle.zot_maps.proofs.Maps.{byte_order, get_elsewhere, get_here}
 use Rattle.zot_model.proofs.FitLemmas.{answer_fits, common_fits}
 use Rattle.zot_model.specs.Fits.{FitsCall}
-use Rattle.zot_model.specs.Plain.{IsPlain, LacksMemory, MayAnswer, Stay}
+use Rattle.zot_model.specs.Plain.{IsPlain, LacksMemory, MayAnswer}
 use Rattle.zot_model.specs.Refusals.{no_memory, storage_fault}
 use Rattle.zot_model.specs.State.{Becomes, RepoState, RowState, fresh, repo_at}
 use Rattle.zot_model.specs.Uploads.{UploadTable}
@@ -16,10 +16,9 @@ use Rattle.zot_model.specs.declared.code.Code.TheVariants.{NoMemory, StorageFaul
 use Rattle.zot_model.specs.declared.reply.Reply.{Reply}
 use Rattle.zot_outside.specs.Objects.{Objects}
 use Rattle.zot_repo.specs.Replies.{MayGive}
-use Rattle.zot_row.proofs.EndLemmas.{in_want, plainly}
 use Rattle.zot_row.proofs.PartLemmas.{quiet_others, quiet_stands}
 use Rattle.zot_row.specs.Doing.{Doing}
-use Rattle.zot_row.specs.Going.{FitsTurn, Goes, HasPartCause, HasTurnCause, IsCalm, MountsFirst, NeverMounts, Quietly, Starts, kept_of}
+use Rattle.zot_row.specs.Going.{HasTurnCause, IsCalm, MountsFirst, NeverMounts, Quietly, Starts, kept_of}
 use Rattle.zot_row.specs.Stages.{IsFor}
 use Rattle.zot_row.specs.Turns.{EndsPlainly}
 use Rattle.zot_row.specs.declared.stage.Stage.{Stage}

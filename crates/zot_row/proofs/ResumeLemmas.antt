@@ -1,37 +1,29 @@
 -- What an answer of the pool leads to.
-use Rattle.std.proofs.Common.{◌≡◌, ◌≢◌, ◌⊎◌, ◌≤◌, ◌<◌, inl, inr, ℕ, ◌+◌, Bool, true, false, not, List, [], ◌∷◌, length, Option, Some, None, refl, sym, ap, subst, ◌∙◌, arith}
-use Rattle.std.specs.Prelude.{IsSome, IsSomeAnd}
-use Rattle.std.specs.FinMap as finite
+use Rattle.std.proofs.Common.{◌≡◌, ◌≢◌, inr, ℕ, ◌+◌, List, Option, None, refl, sym, ap, subst, ◌∙◌}
 use Rattle.zot_contents.specs.declared.pool_call.PoolCall.{PoolCall}
-use Rattle.zot_contents.specs.declared.pool_call.PoolCall.TheVariants as pool
 use Rattle.zot_contents.specs.declared.pool_reply.PoolReply.{PoolReply}
 use Rattle.zot_contents.specs.declared.pool_reply.PoolReply.TheVariants as replies
 use Rattle.zot_layout.specs.Stands.{AreAlike}
-use Rattle.zot_media.specs.declared.media.Media.{Media}
-use Rattle.zot_media.specs.declared.reference.Reference.{Reference}
 use Rattle.zot_model.specs.Among.{IsAmong}
 use Rattle.zot_model.specs.Fits.{FitsCall}
-use Rattle.zot_model.specs.Plain.{Stay, leavings}
-use Rattle.zot_model.specs.Refusals.{no_memory, storage_fault}
-use Rattle.zot_model.specs.State.{RepoState, made_known}
+use Rattle.zot_model.specs.Plain.{leavings}
+use Rattle.zot_model.specs.Refusals.{storage_fault}
+use Rattle.zot_model.specs.State.{RepoState}
 use Rattle.zot_model.specs.declared.call.Call.{Call}
 use Rattle.zot_model.specs.declared.call.Call.TheVariants as calls
 use Rattle.zot_model.specs.declared.reply.Reply.{Reply}
 use Rattle.zot_outside.specs.Objects.{Objects}
 use Rattle.zot_repo.specs.Replies.{MayGive}
-use Rattle.zot_row.proofs.EndLemmas.{attach_gives, attach_keeps, counts_stay, detach_gives, detach_keeps, mount_keeps, read_gives, read_keeps, ungiven_ends, unless_size}
+use Rattle.zot_row.proofs.EndLemmas.{counts_stay, ungiven_ends}
 use Rattle.zot_row.proofs.PartLemmas.{quiet_others, quiet_stands}
 use Rattle.zot_row.proofs.QuietLemmas.{fault_fits, may_end, memory_fits}
 use Rattle.zot_row.specs.Doing.{Doing}
-use Rattle.zot_row.specs.Going.{Falls, FitsTurn, Goes, GoesOn, HasEitherCause, HasNextCause, IsCalm, Resumes, ResumesQuietly, kept_of}
+use Rattle.zot_row.specs.Going.{Goes, HasEitherCause, Resumes, ResumesQuietly, kept_of}
 use Rattle.zot_row.specs.Refusals.{pool_refusal}
-use Rattle.zot_row.specs.Stages.{IsFor, pending}
+use Rattle.zot_row.specs.Stages.{IsFor}
 use Rattle.zot_row.specs.Turns.{Counts, Ends, Takes, given}
-use Rattle.zot_row.specs.declared.stage.Attaching.{Attaching}
 use Rattle.zot_row.specs.declared.stage.Attaching.TheVariants as attaching
-use Rattle.zot_row.specs.declared.stage.Learning.{Learning}
 use Rattle.zot_row.specs.declared.stage.Learning.TheVariants as learning
-use Rattle.zot_row.specs.declared.stage.Rest.{Rest}
 use Rattle.zot_row.specs.declared.stage.Stage.{Stage}
 use Rattle.zot_row.specs.declared.stage.Stage.TheVariants as stages
 use Rattle.zot_row.specs.declared.turn.Turn.{Turn}

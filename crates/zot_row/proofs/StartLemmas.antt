@@ -1,10 +1,8 @@
 -- Calls that make their repository known before the pool is asked.
-use Rattle.std.proofs.Common.{◌≡◌, ◌≢◌, ◌⊎◌, ◌≤◌, inl, inr, ℕ, ◌+◌, Bool, true, List, length, Option, Some, None, refl, sym, ap, subst, ◌∙◌}
-use Rattle.std.specs.Prelude.{Result, Ok, Err}
+use Rattle.std.proofs.Common.{◌≡◌, ◌≢◌, inl, inr, ℕ, ◌+◌, true, List, length, Option, refl, sym, ap, subst, ◌∙◌}
+use Rattle.std.specs.Prelude.{Err}
 use Rattle.zot_contents.specs.declared.pool_call.PoolCall.TheVariants as pool
-use Rattle.zot_layout.specs.Stands.{AreAlike}
-use Rattle.zot_model.specs.Refusals.{no_memory, storage_fault}
-use Rattle.zot_model.specs.State.{RepoState, made_known}
+use Rattle.zot_model.specs.Refusals.{no_memory}
 use Rattle.zot_model.specs.declared.call.Call.{Call}
 use Rattle.zot_model.specs.declared.call.Call.TheVariants as calls
 use Rattle.zot_model.specs.declared.reply.Reply.{Reply}
@@ -18,7 +16,7 @@ use Rattle.zot_row.proofs.EndLemmas.{in_want, refused_ends}
 use Rattle.zot_row.proofs.PartLemmas.{quiet_stands, stands_then}
 use Rattle.zot_row.proofs.QuietLemmas.{fault_fits, memory_fits, quiet_done, quiet_never}
 use Rattle.zot_row.specs.Doing.{EndsWith}
-use Rattle.zot_row.specs.Going.{AsksToAttach, AsksToMount, FitsTurn, HasPartCause, KeepsOthers, KeepsStanding, NeverMounts, Quietly, Starts, kept_of}
+use Rattle.zot_row.specs.Going.{AsksToAttach, AsksToMount, FitsTurn, HasPartCause, KeepsOthers, KeepsStanding, NeverMounts, Quietly, Starts}
 use Rattle.zot_row.specs.Refusals.{store_refusal}
 use Rattle.zot_row.specs.Stages.{Attaches}
 use Rattle.zot_row.specs.declared.stage.Attaching.{Attaching}

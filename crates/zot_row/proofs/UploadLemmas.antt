@@ -1,5 +1,5 @@
 -- GET, PATCH and the last PUT of an upload.
-use Rattle.std.proofs.Common.{◌≡◌, ◌≢◌, ℕ, ◌+◌, ◌++◌, List, length, Option, Some, None, refl, sym, ap, subst, ◌∙◌}
+use Rattle.std.proofs.Common.{◌≡◌, ◌≢◌, ℕ, ◌+◌, ◌++◌, List, length, Option, Some, None, refl, sym, ap, ◌∙◌}
 use Rattle.std.specs.FinMap as finite
 use Rattle.zot_model.specs.Refusals.{storage_fault}
 use Rattle.zot_model.specs.Uploads.{OpenUpload, UploadTable, bytes_of, with_piece}
@@ -82,9 +82,14 @@ refused_quiet moment name table id range digest body error reply refuses is =
     (λ holds. finish_refused moment (repo_of table holds) id range digest body error reply refuses is)
 
 -- once all its bytes are held, the upload has ended as a blob
-pub finish_ends : (moment : ℕ) (table : RepoTable) (holds : Holds) (id : ℕ) (range : Option Span) (digest piece bytes : List ℕ) → IsWhole (finite.get table.sessions.uploads id) range piece digest
+finish_ends : (moment : ℕ) (table : RepoTable) (holds : Holds) (id : ℕ) (range : Option Span) (digest piece bytes : List ℕ) → IsWhole (finite.get table.sessions.uploads id) range piece digest
     → bytes ≡ bytes_of (finite.get table.sessions.uploads id) ++ piece → EndsWith (attaching.Upload id) digest bytes (repo_of table holds) (calls.Finish (Some id) range digest piece) moment
 finish_ends moment table holds id range digest piece bytes whole are = whole_made moment (repo_of table holds) _ id range digest piece bytes (BlobMade digest) whole are refl refl
+
+-- so is a list that is made of them
+pub finish_made : (moment : ℕ) (table : RepoTable) (holds : Holds) (id : ℕ) (range : Option Span) (digest piece bytes made : List ℕ) → IsWhole (finite.get table.sessions.uploads id) range piece digest
+    → bytes ≡ bytes_of (finite.get table.sessions.uploads id) ++ piece → made ≡ bytes → EndsWith (attaching.Upload id) digest made (repo_of table holds) (calls.Finish (Some id) range digest piece) moment
+finish_made moment table holds id range digest piece bytes made whole are same = finish_ends moment table holds id range digest piece made whole (same ∙ are)
 
 -- no last PUT mounts
 pub never_finish : (id : Option ℕ) (range : Option Span) (digest piece : List ℕ) → NeverMounts (calls.Finish id range digest piece)

@@ -1,5 +1,5 @@
 -- What is so while a call waits for the pool: what it asked, what it has done to the repository so far, and what it will lead to.
-use Rattle.std.specs.Prelude.{◌≡◌, ℕ, Bool, true, false, not, List, ◌∷◌, length, Option, Some, None, IsSome, IsSomeAnd}
+use Rattle.std.specs.Prelude.{◌≡◌, ℕ, Bool, true, false, not, List, ◌∷◌, length, Option, Some, IsSome, IsSomeAnd}
 use Rattle.std.specs.FinMap as finite
 use Rattle.std.specs.List.{Contains}
 use Rattle.zot_contents.specs.declared.pool_call.PoolCall.{PoolCall}

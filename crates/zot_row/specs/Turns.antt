@@ -1,7 +1,5 @@
 -- A turn of a repository: what a call on it leads to, where the bytes of its blobs are held by a pool of digests.
-use Rattle.std.specs.Prelude.{◌≡◌, ◌⊎◌, ℕ, ◌+◌, Bool, true, false, List, ◌∷◌, length, Option, Some, None, IsSome, is_some, ⊤}
-use Rattle.std.specs.FinMap as finite
-use Rattle.std.specs.List.{Contains}
+use Rattle.std.specs.Prelude.{◌≡◌, ◌⊎◌, ℕ, Bool, List, length, Option, Some, None, is_some, ⊤}
 use Rattle.zot_contents.specs.declared.pool_call.PoolCall.{PoolCall}
 use Rattle.zot_contents.specs.declared.pool_call.PoolCall.TheVariants as calls
 use Rattle.zot_contents.specs.declared.pool_reply.PoolReply.{PoolReply}
@@ -11,9 +9,8 @@ use Rattle.zot_model.specs.declared.call.Call.{Call}
 use Rattle.zot_model.specs.declared.reply.Reply.{Reply}
 use Rattle.zot_model.specs.Mounts.{TakesOver}
 use Rattle.zot_model.specs.Plain.{FailsToStore, IsPlain, LacksMemory, Rise, Stay}
-use Rattle.zot_model.specs.State.{RepoState, made_known}
-use Rattle.zot_table.specs.Standing.{Agrees, AreEqual, Holds, Sets, repo_of}
-use Rattle.zot_table.specs.Tables.{RepoTable}
+use Rattle.zot_model.specs.State.{RepoState}
+use Rattle.zot_table.specs.Standing.{AreEqual, Holds, Sets}
 
 -- ---- how a call ends
 

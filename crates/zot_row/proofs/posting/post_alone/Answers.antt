@@ -1,4 +1,4 @@
-use Rattle.std.proofs.Common.{ℕ, List, Option, Some, None, sym, subst}
+use Rattle.std.proofs.Common.{ℕ, List, Option, sym, subst}
 use Rattle.zot_model.specs.declared.call.Call.TheVariants as calls
 use Rattle.zot_row.specs.Going.{NeverMounts, Starts}
 use Rattle.zot_row.specs.declared.turn.Turn.TheVariants as turns

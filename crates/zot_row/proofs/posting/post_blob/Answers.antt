@@ -1,5 +1,4 @@
-use Rattle.std.proofs.Common.{Some, refl, sym, subst, ap, ◌∙◌}
-use Rattle.zot_digest.specs.Digest.{IsSound}
+use Rattle.std.proofs.Common.{Some, refl, sym, subst}
 use Rattle.zot_model.specs.declared.call.Call.TheVariants as calls
 use Rattle.zot_model.specs.declared.reply.Reply.{Reply}
 use Rattle.zot_row.proofs.PostLemmas.{post_copied, unsound_quiet}

@@ -1,4 +1,3 @@
-use Rattle.std.proofs.Common.{sym}
 use Rattle.zot_model.specs.declared.call.Call.TheVariants as calls
 use Rattle.zot_model.specs.declared.reply.Reply.TheVariants as answers
 use Rattle.zot_row.proofs.StartLemmas.{base_quiet, quiet_as, starts_as}

@@ -2,7 +2,7 @@ use Rattle.std.proofs.Common.{ℕ, List, Option, Some, refl, ap, sym, subst, ◌
 use Rattle.zot_model.specs.declared.call.Call.TheVariants as calls
 use Rattle.zot_model.specs.declared.call.Call.{Call}
 use Rattle.zot_row.proofs.QuietLemmas.{quiet_never}
-use Rattle.zot_row.proofs.UploadLemmas.{finish_ends, never_finish, refused_quiet, unfinished_quiet}
+use Rattle.zot_row.proofs.UploadLemmas.{finish_made, never_finish, refused_quiet, unfinished_quiet}
 use Rattle.zot_row.specs.Going.{Starts}
 use Rattle.zot_row.specs.declared.turn.Turn.TheVariants as turns
 use Rattle.zot_row.proofs.uploads.finish.Goals as goal
@@ -28,7 +28,7 @@ returns-in-Ok g c = λ moment.
     let same = ap (λ (i : Option ℕ). call i piece) (sym c.in-Some.is) ∙ ap (call c.args.id) c.as_slice.ensures in
     subst (λ (q : Call). Starts q moment name repo (objects c.args.part.now) (faults c.args.part.now) c.store.result c.store.new.repo (objects c.store.new.part) (faults c.store.new.part)) same
     (c.store.ensures (call (Some id) piece) moment (λ e. cc e) (never_finish (Some id) c.args.range digest piece) (record { range = c.args.range; body = piece; is = refl })
-    (λ holds agrees. finish_ends moment repo holds id c.args.range digest piece c.new.result c.in-Ok.ensures.right (c.new.ensures ∙ c.in-Ok.ensures.bytes)))
+    (λ holds agrees. finish_made moment repo holds id c.args.range digest piece c.in-Ok.bytes.items c.new.result c.in-Ok.ensures.right c.in-Ok.ensures.bytes c.new.ensures))
 
 pub returns-in-Err : goal.returns-in-Err
 returns-in-Err g c = λ moment.
