@@ -1,6 +1,7 @@
 -- What a pool's answer is to a row, and what is held before and after several of them.
-use Rattle.std.proofs.Common.{◌≡◌, ◌≢◌, ◌≤◌, ◌+◌, ◌-◌, ◌^◌, min, inl, inr, ℕ, Bool, true, false, cond, List, length, Option, Some, None, IfSome, refl, sym, ap, subst, ◌∙◌, arith}
+use Rattle.std.proofs.Common.{◌≡◌, ◌≤◌, inl, inr, ℕ, Bool, true, false, cond, List, Option, Some, None, IfSome, refl, sym, ap, subst, ◌∙◌, arith}
 use Rattle.std.specs.Prelude.{IsSome, IsSomeAnd, sum}
+use Rattle.std.proofs.lemmas.Slice.Eq.{bytes_eq-Decides}
 use Rattle.zot_contents.proofs.HolderLemmas.{with_bytes_here}
 use Rattle.zot_contents.specs.Holders.{digest_in, name_in}
 use Rattle.zot_contents.specs.Pool.{Gives, Holders, IsPlain, MayAnswer, if_sound, mount_of}
@@ -11,12 +12,14 @@ use Rattle.zot_contents.specs.declared.pool_reply.PoolReply.TheVariants as repli
 use Rattle.zot_digest.specs.Digest.{IsDigest, is_sound}
 use Rattle.zot_names.specs.Name.{IsName}
 use Rattle.zot_outside.specs.Faults.{Rose}
-use Rattle.zot_pool.specs.Pools.{BothHold, HasPoolCause, OnFailed, RoseAt, refusal}
+use Rattle.zot_outside.specs.declared.stores.store.Store.{Ghosts}
+use Rattle.zot_contents.specs.declared.shard.DigestShard.{DigestShard}
+use Rattle.zot_pool.specs.Pools.{holds, objects_of, BothHold, HasPoolCause, OnFailed, RoseAt, refusal}
 use Rattle.zot_row.specs.Turns.{given}
 use Rattle.zot_core.proofs.RowLemmas.{under_digest}
 use Rattle.zot_core.proofs.TakingLemmas.{pool_takes}
 use Rattle.zot_core.specs.Rows.{TakesRow, under}
-use Rattle.zot_core.specs.Shards.{AnswersAsked, KeepsOtherNames}
+use Rattle.zot_core.specs.Shards.{AnswersAsked, Asked, KeepsOtherNames, is_for}
 
 -- ---- what is held, where it is told
 
@@ -98,3 +101,42 @@ rose_whole number old new answered cause is = (subst (λ (a : PoolReply). OnFail
 
 pub rose_since : (before mid after : ℕ) → before ≤ mid → Rose mid after → Rose before after
 rose_since before mid after later rose = omega arith
+
+-- ---- for whom it is asked
+
+pub for_name : (name : List ℕ) (asked : PoolCall) → is_for name asked ≡ true → name_in asked ≡ Some name
+for_name name pool.Holdings h = cc h
+for_name name (pool.Attach own digest bytes) h = ap (λ n. Some n) ((bytes_eq-Decides own name).0 h)
+for_name name (pool.Mount own from digest) h = ap (λ n. Some n) ((bytes_eq-Decides own name).0 h)
+for_name name (pool.Read own digest) h = ap (λ n. Some n) ((bytes_eq-Decides own name).0 h)
+for_name name (pool.Detach own digest) h = ap (λ n. Some n) ((bytes_eq-Decides own name).0 h)
+
+pub for_digest : (name : List ℕ) (asked : PoolCall) → is_for name asked ≡ true → IsSome (digest_in asked)
+for_digest name pool.Holdings h = cc h
+for_digest name (pool.Attach own digest bytes) h = refl
+for_digest name (pool.Mount own from digest) h = refl
+for_digest name (pool.Read own digest) h = refl
+for_digest name (pool.Detach own digest) h = refl
+
+-- the others hold what they held after a call for the repository of a name
+pub others_asked : (name : List ℕ) (asked : PoolCall) (answered : PoolReply) (held behind : Holders) → IsName name → is_for name asked ≡ true → AnswersAsked asked answered held behind → KeepsOtherNames name held behind
+others_asked name asked answered held behind is on h =
+    others_kept held behind name asked answered (if_some_at (name_in asked) (λ n. IsName n → TakesRow IsName n answered asked held behind) name (for_name name asked on) h.takes is)
+
+-- what isn't asked
+pub answers_none : (asked : PoolCall) (held : Holders) → AnswersAsked asked replies.NoMemory held held
+answers_none asked held = record {
+  takes = if_some_by (name_in asked) (λ name. IsName name → TakesRow IsName name replies.NoMemory asked held held) (λ name _ is. record { here = λ digest. refl; others = λ other own apart digest. refl });
+  taken = λ name from digest is e. tt;
+}
+
+pub asked_none : {S : Type 0} {G : Ghosts S} (name : List ℕ) (shards : List (DigestShard S G)) (failed : ℕ) (asked : PoolCall) → Asked name shards failed asked replies.NoMemory shards failed
+asked_none name shards failed asked = record {
+  answer = both_itself (holds (objects_of shards)) (AnswersAsked asked replies.NoMemory) (answers_none asked);
+  others = both_itself (holds (objects_of shards)) (KeepsOtherNames name) (λ held digest other of is apart. refl);
+  counts = refl;
+  rose = λ is. cc is;
+  later = omega arith;
+  tight = λ _ h. h;
+  dedupe = λ h. h;
+}

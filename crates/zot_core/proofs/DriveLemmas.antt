@@ -1,19 +1,16 @@
 -- How a call on a row goes on from one answer of the pool to the next.
-use Rattle.std.proofs.Common.{◌≡◌, ◌≢◌, ◌⊎◌, ◌≤◌, ◌<◌, ◌+◌, inl, inr, ℕ, List, [], ◌∷◌, length, Option, Some, None, IfSome, is_some, refl, sym, ap, subst, ◌∙◌, arith}
-use Rattle.std.specs.Prelude.{IsSome, IsSomeAnd, sum}
+use Rattle.std.proofs.Common.{◌≡◌, ◌≢◌, ◌⊎◌, ◌≤◌, ◌<◌, ◌+◌, inl, inr, ℕ, List, Option, Some, None, refl, sym, ap, subst, ◌∙◌, arith}
 use Rattle.zot_contents.specs.Holders.{name_in}
 use Rattle.zot_contents.specs.Pool.{Holders}
 use Rattle.zot_contents.specs.declared.pool_call.PoolCall.{PoolCall}
 use Rattle.zot_contents.specs.declared.pool_call.PoolCall.TheVariants as pool
 use Rattle.zot_contents.specs.declared.pool_reply.PoolReply.{PoolReply}
 use Rattle.zot_contents.specs.declared.pool_reply.PoolReply.TheVariants as replies
-use Rattle.zot_contents.specs.declared.shard.DigestShard.{DigestShard}
 use Rattle.zot_model.specs.Mounts.{Asks as AsksMount}
 use Rattle.zot_model.specs.State.{RepoState}
 use Rattle.zot_model.specs.declared.call.Call.{Call}
 use Rattle.zot_model.specs.declared.call.Call.TheVariants as calls
 use Rattle.zot_model.specs.declared.request.Request.{Request}
-use Rattle.zot_model.specs.declared.row.RowCall.{RowCall}
 use Rattle.zot_model.specs.declared.row.RowCall.TheVariants.{Ask}
 use Rattle.zot_names.specs.Name.{IsName}
 use Rattle.zot_row.specs.Doing.{Doing}
@@ -25,10 +22,10 @@ use Rattle.zot_row.specs.declared.stage.Stage.{Stage}
 use Rattle.zot_row.specs.declared.stage.Stage.TheVariants as stages
 use Rattle.zot_table.specs.Standing.{Holds}
 use Rattle.zot_table.specs.Tables.{RepoTable}
-use Rattle.zot_core.proofs.AskLemmas.{if_some_at, if_some_by, others_kept}
-use Rattle.zot_core.specs.RowGoing.{DoingRow, GoesOnRow, GoesRow, IsForCall, pending_of}
-use Rattle.zot_core.specs.Rows.{AgreesRow, Tables, TakesRow, state_of, table_at, under}
-use Rattle.zot_core.specs.Shards.{AnswersAsked, IsLate, IsTaken, KeepsOtherNames, Led}
+use Rattle.zot_core.proofs.AskLemmas.{if_some_at}
+use Rattle.zot_core.specs.RowGoing.{GoesOnRow, GoesRow, IsForCall, pending_of}
+use Rattle.zot_core.specs.Rows.{Tables, TakesRow, state_of, table_at, under}
+use Rattle.zot_core.specs.Shards.{AnswersAsked, IsLate, IsTaken, Led}
 use Rattle.zot_core.specs.declared.row_next.RowNext.{RowNext}
 use Rattle.zot_core.specs.declared.row_next.RowNext.TheVariants as nexts
 use Rattle.zot_core.specs.declared.waiting.Waiting.{Waiting}
@@ -177,8 +174,5 @@ module _ (Own : List ℕ → Type 0) (named_own : (name : List ℕ) → Own name
     is_taken = taken_by (given answered asked (under behind was.name)) refl;
     goes = subst (λ m. GoesRow Own next waiting (given answered asked (under behind was.name)) (state_of old held before) (Ask request) m new behind (after + later)) at_moment
         (goes_on (state_of old held before) (Ask request) asked mid behind fails later led.goes.0 led.goes.1 takes_own counts);
-    others = if_some_by request.name (λ name. KeepsOtherNames name held behind) (λ name is digest other of is_other apart.
-        others_kept mid behind was.name asked answered takes digest other of is_other (λ e. apart (e ∙ some_same was.name name (sym named ∙ is)))
-        ∙ if_some_at request.name (λ n. KeepsOtherNames n held mid) name is led.others digest other of is_other apart);
     first = inr (λ digest from asks. below_two (pending_of waiting) (pending was.stage) falls (asks_twice was.stage request.call digest from fits.1 asks));
   }

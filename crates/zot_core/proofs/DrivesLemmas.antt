@@ -1,33 +1,25 @@
 -- A call on a row, from its beginning over each answer of the pool to its own answer.
-use Rattle.std.proofs.Common.{◌≡◌, ◌≢◌, ◌⊎◌, ◌≤◌, ◌<◌, ◌+◌, inl, inr, ℕ, List, [], ◌∷◌, Option, Some, None, IfSome, refl, sym, ap, subst, ◌∙◌, arith}
-use Rattle.std.specs.Prelude.{IsSome, IsSomeAnd, sum}
+use Rattle.std.proofs.Common.{◌≡◌, ◌⊎◌, ◌≤◌, ◌<◌, ◌+◌, inl, inr, ℕ, List, Option, Some, None, IfSome, refl, sym, ap, subst, ◌∙◌, arith}
+use Rattle.std.specs.Prelude.{IsSomeAnd, sum}
 use Rattle.zot_contents.specs.Pool.{Holders}
 use Rattle.zot_contents.specs.declared.pool_call.PoolCall.{PoolCall}
 use Rattle.zot_contents.specs.declared.pool_reply.PoolReply.{PoolReply}
 use Rattle.zot_contents.specs.declared.pool_reply.PoolReply.TheVariants as replies
 use Rattle.zot_contents.specs.declared.shard.DigestShard.{DigestShard}
-use Rattle.zot_model.specs.History.{Run, Step}
-use Rattle.zot_model.specs.Plain.{MayAnswer}
-use Rattle.zot_model.specs.Refusals.{storage_fault}
-use Rattle.zot_model.specs.State.{AreSame, RowState}
-use Rattle.zot_model.specs.declared.reply.Reply.{Reply}
 use Rattle.zot_model.specs.declared.request.Request.{Request}
 use Rattle.zot_model.specs.declared.row.RowCall.{RowCall}
 use Rattle.zot_model.specs.declared.row.RowCall.TheVariants.{Ask}
-use Rattle.zot_model.specs.declared.row.RowReply.{RowReply}
 use Rattle.zot_model.specs.declared.row.RowReply.TheVariants as answers
-use Rattle.zot_names.specs.Name.{IsName}
 use Rattle.zot_outside.specs.Faults.{Rose}
 use Rattle.zot_outside.specs.Objects.{Objects}
 use Rattle.zot_outside.specs.declared.stores.store.Store.{Ghosts}
-use Rattle.zot_pool.specs.Pools.{BothHold, faults_of, holds, objects_of}
-use Rattle.zot_row.specs.Stages.{pending}
+use Rattle.zot_pool.specs.Pools.{faults_of, holds, objects_of}
 use Rattle.zot_row.specs.Turns.{Counts}
-use Rattle.zot_core.proofs.AskLemmas.{both_each, both_itself, both_then, if_some_at, if_some_by, rose_since, some_and_at}
+use Rattle.zot_core.proofs.AskLemmas.{both_itself, both_then, if_some_at, if_some_by, rose_since, some_and_at}
 use Rattle.zot_core.proofs.DriveLemmas.{led_on}
-use Rattle.zot_core.specs.RowGoing.{BeginsRow, FitsNext, GoesOnRow, GoesRow, HasCause, HasCauseAfter, IsForCall, IsOnOwn, IsOwn, KeepsBeside, OnDone, OnName, Rests, pending_of}
-use Rattle.zot_core.specs.Rows.{AgreesRow, NoneFresh, Tables, state_of}
-use Rattle.zot_core.specs.Shards.{AnswersAsked, Asked, Drives, HasAnswerCause, HasCauseSoFar, IsCounted, IsTaken, IsUnfailed, KeepsOtherNames, Led, StepsRow}
+use Rattle.zot_core.specs.RowGoing.{BeginsRow, FitsNext, GoesOnRow, HasCause, HasCauseAfter, IsForCall, IsOnOwn, IsOwn, KeepsBeside, OnDone, OnName, Rests, pending_of}
+use Rattle.zot_core.specs.Rows.{AgreesRow, NoneFresh}
+use Rattle.zot_core.specs.Shards.{AnswersAsked, Asked, Drives, HasCauseSoFar, IsCounted, IsTaken, KeepsOtherNames, Led}
 use Rattle.zot_core.specs.declared.row_config.RowConfig.{RowConfig}
 use Rattle.zot_core.specs.declared.row_core.RowCore.{RowCore}
 use Rattle.zot_core.specs.declared.row_next.RowNext.{RowNext}
@@ -97,7 +89,8 @@ module _ {S : Type 0} {G : Ghosts S} (old : RowCore S G) (failed : ℕ) (before 
     answer = both_itself (holds (objects_of before))
         (λ held behind. AgreesRow (IsOwn old.config old.row) old.repos held
         → Led (IsOwn old.config old.row) call moment old.repos held (G.faults old.part + failed) next new.waiting new.repos behind (G.faults new.part + failed))
-        (λ held agrees. record { taken = None; is_taken = taken_none call held; goes = begins held failed agrees; others = others_itself call held; first = inl refl });
+        (λ held agrees. record { taken = None; is_taken = taken_none call held; goes = begins held failed agrees; first = inl refl });
+    others = both_itself (holds (objects_of before)) (λ held behind. OnName call (λ name. KeepsOtherNames name held behind)) (λ held. others_itself call held);
     rests = rests;
     fits = fits;
     beside = beside;
@@ -115,7 +108,7 @@ module _ {S : Type 0} {G : Ghosts S} (old : RowCore S G) (failed : ℕ) (before 
   -- ---- it goes on
 
   module _ (request : Request) (asked : PoolCall) (mid : RowCore S G) (fails : ℕ) (since : List (DigestShard S G)) (d : Drives old failed before (Ask request) moment (nexts.Pool asked) mid fails since) (was : Waiting) (is : mid.waiting ≡ Some was)
-      (named : request.name ≡ Some was.name) (own : IsOwn old.config old.row was.name) (at_moment : was.moment ≡ moment) (answered : PoolReply) (later : ℕ) (after : List (DigestShard S G)) (a : Asked since fails asked answered after later)
+      (named : request.name ≡ Some was.name) (own : IsOwn old.config old.row was.name) (at_moment : was.moment ≡ moment) (answered : PoolReply) (later : ℕ) (after : List (DigestShard S G)) (a : Asked was.name since fails asked answered after later)
       (next : RowNext) (new : RowCore S G) where
     goes_on_old : GoesOnRow (IsOwn mid.config mid.row) mid.waiting answered mid.repos (G.faults mid.part) next new.waiting new.repos (G.faults new.part) → GoesOnRow (IsOwn old.config old.row) (Some was) answered mid.repos (G.faults mid.part) next new.waiting new.repos (G.faults new.part)
     goes_on_old h =
@@ -139,6 +132,10 @@ module _ {S : Type 0} {G : Ghosts S} (old : RowCore S G) (failed : ℕ) (before 
           led_on (IsOwn old.config old.row) (λ name of. of.named) request moment was named own at_moment old.repos held (G.faults old.part + failed) asked mid.repos between behind (G.faults mid.part) fails later answered
           (subst (λ (w : Option Waiting). Led (IsOwn old.config old.row) (Ask request) moment old.repos held (G.faults old.part + failed) (nexts.Pool asked) w mid.repos between (G.faults mid.part + fails)) is (led agrees)) h
           next new.waiting new.repos (G.faults new.part) is_for (subst (λ (w : Option Waiting). pending_of new.waiting < pending_of w) is falls) (goes_on_old goes_on) a.counts) d.answer a.answer;
+      others = both_then (holds (objects_of before)) (holds (objects_of since)) (holds (objects_of after)) (λ held behind. OnName (Ask request) (λ name. KeepsOtherNames name held behind)) (KeepsOtherNames was.name)
+          (λ held behind. OnName (Ask request) (λ name. KeepsOtherNames name held behind)) (λ held between behind h k.
+          if_some_by request.name (λ name. KeepsOtherNames name held behind) (λ name on digest other of is_other apart. k digest other of is_other (λ e. apart (e ∙ name_same was.name name (sym named ∙ on)))
+          ∙ if_some_at request.name (λ n. KeepsOtherNames n held between) name on h digest other of is_other apart)) d.others a.others;
       rests = if_some_by request.name (λ name. Rests next name moment new.waiting) (λ name on. subst (λ (n : List ℕ). Rests next n moment new.waiting) (name_same was.name name (sym named ∙ on))
           (subst (λ m. Rests next was.name m new.waiting) at_moment (if_some_at mid.waiting (λ (w : Waiting). Rests next w.name w.moment new.waiting) was is rests)));
       fits = if_some_at mid.waiting (λ (w : Waiting). (call : RowCall) → IsForCall call w → FitsNext call next new.waiting) was is fits (Ask request) is_for;
@@ -163,13 +160,14 @@ module _ {S : Type 0} {G : Ghosts S} (old : RowCore S G) (failed : ℕ) (before 
 
   -- the same of any call of the row, whatever it is that waits
   pub goes_on_drives : (call : RowCall) (asked : PoolCall) (here : RowNext) (mid : RowCore S G) (fails : ℕ) (since : List (DigestShard S G)) → IsOnOwn (IsOwn old.config old.row) call → here ≡ nexts.Pool asked → Drives old failed before call moment here mid fails since
-      → (answered : PoolReply) (later : ℕ) (after : List (DigestShard S G)) → Asked since fails asked answered after later → (next : RowNext) (new : RowCore S G)
+      → (name : List ℕ) → OnName call (λ n. n ≡ name) → (answered : PoolReply) (later : ℕ) (after : List (DigestShard S G)) → Asked name since fails asked answered after later → (next : RowNext) (new : RowCore S G)
       → GoesOnRow (IsOwn mid.config mid.row) mid.waiting answered mid.repos (G.faults mid.part) next new.waiting new.repos (G.faults new.part) → IfSome mid.waiting (λ (w : Waiting). Rests next w.name w.moment new.waiting) → HasCauseAfter answered next (G.faults mid.part) (G.faults new.part)
       → IfSome mid.waiting (λ (w : Waiting). (c : RowCall) → IsForCall c w → FitsNext c next new.waiting) → pending_of new.waiting < pending_of mid.waiting → IfSome mid.waiting (λ (w : Waiting). KeepsBeside (G.objects mid.part) w.name (G.objects new.part))
       → OnDone next (NoneFresh None new.repos) → new.row ≡ mid.row → new.config ≡ mid.config → new.opened ≡ mid.opened → Drives old failed before call moment next new later after
-  goes_on_drives (Ask request) asked here mid fails since on is drives answered later after a next new goes_on rests cause fits falls beside names row config opened =
+  goes_on_drives (Ask request) asked here mid fails since on is drives name called answered later after a next new goes_on rests cause fits falls beside names row config opened =
       let d = subst (λ (n : RowNext). Drives old failed before (Ask request) moment n mid fails since) is drives in
       let owner = some_of (IsOwn old.config old.row) request.name on in
       let rest = if_some_at request.name (λ name. Rests (nexts.Pool asked) name moment mid.waiting) owner.0 owner.1 d.rests in
       let waits = some_of (λ (w : Waiting). (w.name ≡ owner.0) × (w.moment ≡ moment)) mid.waiting rest in
-      on_drives request asked mid fails since d waits.0 waits.1 (owner.1 ∙ ap (λ (n : List ℕ). Some n) (sym waits.2.0)) (subst (IsOwn old.config old.row) (sym waits.2.0) owner.2) waits.2.1 answered later after a next new goes_on rests cause fits falls beside names row config opened
+      on_drives request asked mid fails since d waits.0 waits.1 (owner.1 ∙ ap (λ (n : List ℕ). Some n) (sym waits.2.0)) (subst (IsOwn old.config old.row) (sym waits.2.0) owner.2) waits.2.1 answered later after
+      (subst (λ (n : List ℕ). Asked n since fails asked answered after later) (sym (waits.2.0 ∙ if_some_at request.name (λ n. n ≡ name) owner.0 owner.1 called)) a) next new goes_on rests cause fits falls beside names row config opened

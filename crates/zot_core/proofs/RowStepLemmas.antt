@@ -1,30 +1,24 @@
 -- What a turn of a repository leads to is what a call on its row leads to.
-use Rattle.std.proofs.Common.{◌≡◌, ◌≢◌, inl, inr, ℕ, ◌+◌, ◌<◌, List, [], ◌∷◌, Option, Some, None, refl, sym, ap, subst, ◌∙◌, arith}
-use Rattle.std.specs.Prelude.{IsSomeAnd, IfSome}
-use Rattle.std.specs.FinMap as finite
+use Rattle.std.proofs.Common.{◌≡◌, ◌≢◌, inl, inr, ℕ, List, [], ◌∷◌, Option, Some, None, refl, sym, subst, ◌∙◌}
+use Rattle.std.specs.Prelude.{IsSomeAnd}
 use Rattle.zot_contents.specs.Pool.{Holders}
 use Rattle.zot_contents.specs.declared.pool_reply.PoolReply.{PoolReply}
 use Rattle.zot_history.proofs.Runs.{run_one}
 use Rattle.zot_model.proofs.HistoryLemmas.{same_alike}
-use Rattle.zot_model.specs.History.{Happens, Run, Step, entry_by}
+use Rattle.zot_model.specs.History.{Run, Step, entry_by}
 use Rattle.zot_model.specs.Mounts.{TakesOver}
 use Rattle.zot_model.specs.Plain.{Goes as GoesPlain, MayAnswer, Stay}
-use Rattle.zot_model.specs.Refusals.{no_memory, storage_fault}
 use Rattle.zot_model.specs.State.{AreSame, Becomes, RepoState, RowState, repo_at}
 use Rattle.zot_model.specs.declared.call.Call.{Call}
-use Rattle.zot_model.specs.declared.call.Call.TheVariants as calls
 use Rattle.zot_model.specs.declared.reply.Reply.{Reply}
 use Rattle.zot_model.specs.declared.request.Request.{Request}
 use Rattle.zot_model.specs.declared.row.RowCall.TheVariants.{Ask}
-use Rattle.zot_model.specs.declared.row.RowReply.TheVariants as answers
 use Rattle.zot_core.proofs.RowLemmas.{agrees_then, becomes_then, others_stay}
 use Rattle.zot_row.specs.Doing.{Doing}
 use Rattle.zot_row.specs.Going.{AsksToMount, FitsTurn, Goes, HasNextCause, HasTurnCause}
-use Rattle.zot_core.specs.RowGoing.{AsksNextToMount, FitsNext, GoesRow, HasCause, HasCauseAfter, Rests, next_of, pending_of, waiting_of}
-use Rattle.zot_core.specs.Rows.{AgreesRow, SetsTable, Tables, state_of, table_at, under}
-use Rattle.zot_row.specs.Stages.{pending}
+use Rattle.zot_core.specs.RowGoing.{AsksNextToMount, FitsNext, GoesRow, HasCause, HasCauseAfter, Rests, next_of, waiting_of}
+use Rattle.zot_core.specs.Rows.{AgreesRow, SetsTable, Tables, state_of, under}
 use Rattle.zot_row.specs.Turns.{Ends, EndsPlainly}
-use Rattle.zot_row.specs.declared.stage.Stage.{Stage}
 use Rattle.zot_row.specs.declared.turn.Turn.{Turn}
 use Rattle.zot_row.specs.declared.turn.Turn.TheVariants as turns
 use Rattle.zot_table.specs.Standing.{AreEqual, repo_of}

@@ -1,11 +1,10 @@
 -- What the part of a row stands for after a turn of one of its repositories.
-use Rattle.std.proofs.Common.{◌≡◌, ◌≢◌, ℕ, List, Option, Some, None, refl, sym, ap, subst, ◌∙◌}
-use Rattle.std.specs.Prelude.{IfSome}
+use Rattle.std.proofs.Common.{◌≢◌, ℕ, List, Option, Some, None, refl, sym, ap, subst, ◌∙◌}
 use Rattle.zot_contents.specs.Pool.{Holders}
 use Rattle.zot_layout.proofs.StandsLemmas.{stands_alike}
 use Rattle.zot_layout.specs.Stands.{AreAlike, StandsFor, StandsForRow}
 use Rattle.zot_layout.specs.Writing.{StandsWhereTold}
-use Rattle.zot_model.specs.State.{RepoState, repo_at}
+use Rattle.zot_model.specs.State.{repo_at}
 use Rattle.zot_outside.specs.Objects.{Objects, Told}
 use Rattle.zot_core.proofs.RowLemmas.{repo_is, table_beside}
 use Rattle.zot_row.specs.Going.{KeepsOthers, KeepsStanding, LeavesOthers, kept_of}

@@ -1,6 +1,5 @@
 -- What a call that is answered has done to the plain row, and to other rows.
-use Rattle.std.proofs.Common.{◌≡◌, ◌≢◌, ◌⊎◌, ◌+◌, inl, inr, ℕ, List, [], ◌∷◌, Option, Some, None, refl, sym, ap, subst, ◌∙◌, arith}
-use Rattle.std.specs.Prelude.{IsSomeAnd}
+use Rattle.std.proofs.Common.{◌≡◌, ◌≢◌, ◌+◌, inl, inr, ℕ, List, [], ◌∷◌, Option, Some, None, refl, sym, subst, ◌∙◌, arith}
 use Rattle.zot_contents.specs.Pool.{Holders}
 use Rattle.zot_layout.specs.Rows.{IsOfRow}
 use Rattle.zot_model.specs.History.{Run, Step, entry_for}
@@ -14,7 +13,7 @@ use Rattle.zot_model.specs.declared.row.RowCall.TheVariants.{Ask}
 use Rattle.zot_model.specs.declared.row.RowReply.{RowReply}
 use Rattle.zot_model.specs.declared.row.RowReply.TheVariants as answers
 use Rattle.zot_table.proofs.StandingLemmas.{same_agrees}
-use Rattle.zot_table.specs.Standing.{Agrees, AreEqual}
+use Rattle.zot_table.specs.Standing.{AreEqual}
 use Rattle.zot_core.proofs.DrivesLemmas.{some_of}
 use Rattle.zot_core.proofs.RowLemmas.{repo_is, repo_stays, under_same}
 use Rattle.zot_core.specs.Rows.{AgreesRow, Tables, state_of, table_at, under}

@@ -1,10 +1,10 @@
 -- What the plain pool answers, seen by a row.
-use Rattle.std.proofs.Common.{◌≡◌, ◌≢◌, inl, inr, ℕ, Bool, true, List, length, Option, Some, None, IfSome, is_some, refl, sym, ap, subst, ◌∙◌}
+use Rattle.std.proofs.Common.{◌≡◌, inl, inr, ℕ, List, length, Option, Some, None, IfSome, is_some, refl, sym, ap, subst, ◌∙◌}
 use Rattle.std.proofs.lemmas.Slice.Eq.{bytes_eq-Decides}
 use Rattle.sha2.specs.Sha256.{sha256}
-use Rattle.zot_contents.proofs.HolderLemmas.{same_itself, sound_bytes, with_bytes_beside, with_bytes_here}
+use Rattle.zot_contents.proofs.HolderLemmas.{sound_bytes, with_bytes_beside, with_bytes_here}
 use Rattle.zot_contents.specs.Holders.{digest_in, name_in}
-use Rattle.zot_contents.specs.Pool.{AreSame, Gives, Holders, IsPlain, MayAnswer, content_of, if_sound, mount_of, plain_attach, plain_detach, plain_read, with_bytes}
+use Rattle.zot_contents.specs.Pool.{AreSame, Gives, Holders, IsPlain, MayAnswer, content_of, if_sound, mount_of, plain_attach, plain_detach, with_bytes}
 use Rattle.zot_contents.specs.declared.pool_call.PoolCall.{PoolCall}
 use Rattle.zot_contents.specs.declared.pool_call.PoolCall.TheVariants as pool
 use Rattle.zot_contents.specs.declared.pool_reply.PoolReply.{PoolReply}

@@ -15,7 +15,7 @@ use Rattle.zot_pool.specs.Pools.{AreDeduped, AreTightPool, BothHold, faults_of, 
 pub record AnswersCall {S : Type 0} {G : Ghosts S} (old : RepoShard S G) (before : List (DigestShard S G)) (call : RowCall) (moment : ℕ) (answer : RowReply) (new : RepoShard S G) (after : List (DigestShard S G)) : Type 0 where
   pub steps : BothHold (holds (objects_of before)) (holds (objects_of after)) (λ held behind. AgreesRow (IsOwn old.core.config old.core.row) old.core.repos held
       → StepsRow (IsOwn old.core.config old.core.row) old.core.repos held (G.faults old.core.part + old.failed) call moment answer new.core.repos behind (G.faults new.core.part + new.failed))
-  pub others : BothHold (holds (objects_of before)) (holds (objects_of after)) (λ held behind. AgreesRow (IsOwn old.core.config old.core.row) old.core.repos held → OnName call (λ name. KeepsOtherNames name held behind))
+  pub others : BothHold (holds (objects_of before)) (holds (objects_of after)) (λ held behind. OnName call (λ name. KeepsOtherNames name held behind))
   pub fault : HasAnswerCause answer (G.faults old.core.part) (G.faults new.core.part) (sum (faults_of before)) (sum (faults_of after))
   pub unfailed : BothHold (holds (objects_of before)) (holds (objects_of after)) (λ held behind. AgreesRow (IsOwn old.core.config old.core.row) old.core.repos held → IsUnfailed answer → new.failed ≡ old.failed)
   pub later : sum (faults_of before) ≤ sum (faults_of after)

@@ -121,6 +121,7 @@ abbrev pub next_of : Turn → RowNext
 next_of (turns.Done reply) = nexts.Done (answers.Reply reply)
 next_of (turns.Asks asked stage) = nexts.Pool asked
 
+-- the call that waits then, if one does
 abbrev pub waiting_of : Turn → List ℕ → ℕ → Option Waiting
 waiting_of (turns.Done reply) name moment = None
 waiting_of (turns.Asks asked stage) name moment = Some (record { name = name; stage = stage; moment = moment })

@@ -1,4 +1,5 @@
 -- What a call on a row does, where a pool of digests answers what it asks.
+use Rattle.std.specs.Str.{bytes_eq}
 use Rattle.std.specs.Prelude.{◌≡◌, ◌≢◌, ◌<◌, ◌≤◌, ◌⊎◌, ℕ, ◌+◌, Bool, false, List, [], ◌∷◌, Option, Some, None, IfSome, is_some, sum, ⊤}
 use Rattle.zot_contents.specs.Holders.{name_in}
 use Rattle.zot_contents.specs.Pool.{Holders}
@@ -11,7 +12,6 @@ use Rattle.zot_digest.specs.Digest.{IsDigest}
 use Rattle.zot_model.specs.History.{Run, entry_for}
 use Rattle.zot_model.specs.Mounts.{Asks as AsksMount}
 use Rattle.zot_model.specs.Refusals.{storage_fault}
-use Rattle.zot_model.specs.State.{RowState}
 use Rattle.zot_model.specs.declared.reply.Reply.{Reply}
 use Rattle.zot_model.specs.declared.row.RowCall.{RowCall}
 use Rattle.zot_model.specs.declared.row.RowCall.TheVariants.{Ask}
@@ -58,6 +58,7 @@ pub record HasShardCause (reply : Reply) (before after pooled later : ℕ) : Typ
   pub failed : reply ≡ storage_fault → Rose before after ⊎ Rose pooled later
   pub kept : reply ≢ storage_fault → after ≡ before
 
+-- the same of the row's answer
 abbrev pub HasAnswerCause : RowReply → ℕ → ℕ → ℕ → ℕ → Type 0
 HasAnswerCause (answers.Reply reply) before after pooled later = HasShardCause reply before after pooled later
 
@@ -71,14 +72,23 @@ IsCounted failed fails pooled later = (fails ≡ failed) ⊎ Rose pooled later
 
 -- ---- what the pool is asked
 
--- a call is answered so: the row of the repository that it is on sees what it asked for, every other repository holds what it held, and a mount is given what the named one held
+-- a call is answered so: the row of the repository that it is on sees what it asked for, and a mount is given what the named one held
 pub record AnswersAsked (asked : PoolCall) (answered : PoolReply) (held behind : Holders) : Type 0 where
   pub takes : IfSome (name_in asked) (λ name. IsName name → TakesRow IsName name answered asked held behind)
   pub taken : (name from digest : List ℕ) → IsName name → asked ≡ pool.Mount name from digest → IfSome (given answered asked (under behind name)) (λ bytes. held digest from ≡ Some bytes)
 
--- a pool is asked, and so many of its answers were that a shard failed
-pub record Asked {S : Type 0} {G : Ghosts S} (old : List (DigestShard S G)) (failed : ℕ) (asked : PoolCall) (answered : PoolReply) (new : List (DigestShard S G)) (fails : ℕ) : Type 0 where
+-- whether a call on a digest is for the repository of a name
+abbrev pub is_for : List ℕ → PoolCall → Bool
+is_for name pool.Holdings = false
+is_for name (pool.Attach own digest bytes) = bytes_eq own name
+is_for name (pool.Mount own from digest) = bytes_eq own name
+is_for name (pool.Read own digest) = bytes_eq own name
+is_for name (pool.Detach own digest) = bytes_eq own name
+
+-- a pool is asked for the repository of a name, and so many of its answers were that a shard failed
+pub record Asked {S : Type 0} {G : Ghosts S} (name : List ℕ) (old : List (DigestShard S G)) (failed : ℕ) (asked : PoolCall) (answered : PoolReply) (new : List (DigestShard S G)) (fails : ℕ) : Type 0 where
   pub answer : BothHold (holds (objects_of old)) (holds (objects_of new)) (AnswersAsked asked answered)
+  pub others : BothHold (holds (objects_of old)) (holds (objects_of new)) (KeepsOtherNames name)
   pub counts : Counts answered failed fails
   pub rose : answered ≡ replies.Failed → Rose (sum (faults_of old)) (sum (faults_of new))
   pub later : sum (faults_of old) ≤ sum (faults_of new)
@@ -111,9 +121,9 @@ pub record Led (Own : List ℕ → Type 0) (call : RowCall) (moment : ℕ) (old 
   pub taken : Option (List ℕ)
   pub is_taken : IsTaken call held taken
   pub goes : GoesRow Own next waiting taken (state_of old held before) call moment new behind after
-  pub others : OnName call (λ name. KeepsOtherNames name held behind)
   pub first : (behind ≡ held) ⊎ IsLate call waiting
 
+-- the faults so far: none of the part while the call waits
 abbrev pub HasCauseSoFar : RowNext → ℕ → ℕ → ℕ → ℕ → Type 0
 HasCauseSoFar (nexts.Done answer) before after pooled later = HasAnswerCause answer before after pooled later
 HasCauseSoFar (nexts.Pool asked) before after pooled later = after ≡ before
@@ -122,6 +132,7 @@ HasCauseSoFar (nexts.Pool asked) before after pooled later = after ≡ before
 pub record Drives {S : Type 0} {G : Ghosts S} (old : RowCore S G) (failed : ℕ) (before : List (DigestShard S G)) (call : RowCall) (moment : ℕ) (next : RowNext) (new : RowCore S G) (fails : ℕ) (after : List (DigestShard S G)) : Type 0 where
   pub answer : BothHold (holds (objects_of before)) (holds (objects_of after))
       (λ held behind. AgreesRow (IsOwn old.config old.row) old.repos held → Led (IsOwn old.config old.row) call moment old.repos held (G.faults old.part + failed) next new.waiting new.repos behind (G.faults new.part + fails))
+  pub others : BothHold (holds (objects_of before)) (holds (objects_of after)) (λ held behind. OnName call (λ name. KeepsOtherNames name held behind))
   pub rests : OnName call (λ name. Rests next name moment new.waiting)
   pub fits : FitsNext call next new.waiting
   pub beside : OnName call (λ name. KeepsBeside (G.objects old.part) name (G.objects new.part))

@@ -6,7 +6,7 @@ use mathlib.Core.HLevel.{is_prop→PathP, Π_prop, Unit-prop}
 use Rattle.std.specs.Coded.{Coded-set}
 use Rattle.zot_digest.specs.ByteMap.{ByteMap}
 use Rattle.zot_layout.specs.Rows.{layout_of}
-use Rattle.zot_layout.specs.Stands.{AreAlike, StandsFor, StandsForRow, repo_of}
+use Rattle.zot_layout.specs.Stands.{AreAlike, StandsFor, repo_of}
 use Rattle.zot_layout.specs.Writing.{StandsWhereTold}
 use Rattle.zot_layout.specs.declared.index_state.IndexState.{IndexState}
 use Rattle.zot_layout.specs.declared.layout_error.LayoutError.{LayoutError}

@@ -13,9 +13,9 @@ use zot_outside::Store;
 use zot_pool::Pool;
 
 impl<S: Store> RepoShard<S> {
-    /// Answers a call on a repository of the row, at a moment in seconds, as the plain registry does, or for want of memory, or because the storage failed. Where what the pool holds fits what the row keeps, it does so after the call as well, and no other repository's bytes have changed.
+    /// Answers a call on a repository of the row, at a moment in seconds, as the plain registry does, or for want of memory, or because the storage failed. Where what the pool holds fits what the row keeps, it does so after the call as well. No other repository's bytes change.
     ///
-    /// STORAGE_FAULT comes only where the part failed or a part of the pool did, and NO_MEMORY where memory ran out.
+    /// STORAGE_FAULT comes only where the count of the part's faults or of the pool's rose.
     pub fn step(
         &mut self,
         pool: &mut Pool<S>,

@@ -14,7 +14,7 @@ use zot_outside::Store;
 impl<S: Store> RowCore<S> {
     /// Begins a request on a repository of the row, at a moment in seconds, while no other call is in progress: it is answered, or it asks the pool one thing and waits for the answer, which `resume` takes. Of the part it asks its repository's own layout alone.
     ///
-    /// STORAGE_FAULT comes only where the part failed, and NO_MEMORY where memory ran out. What each may leave is said with `leavings`.
+    /// STORAGE_FAULT comes only where the part failed. What it and NO_MEMORY may leave is said with `leavings`.
     pub fn ask(&mut self, alloc: Global, request: &Request, moment: u64) -> RowNext
         requires own { IsOnOwn (IsOwn self.old.config self.old.row) (Ask request.now) }
         requires idle { self.old.waiting ≡ None }

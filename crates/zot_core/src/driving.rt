@@ -27,12 +27,15 @@ pub fn drive<S: Store>(
     ensures drives { Drives core.old failed.old pool.old.shards.items (Ask request.now) moment (Done result) core.new failed.new pool.new.shards.items }
     ensures idle { IsIdle core.new.waiting }
 {
+    let Some(name) = &request.name else {
+        unreachable!()
+    };
     let mut next = core.ask(alloc, request, moment);
     'turns: loop {
         match next {
             RowNext::Done(answer) => return answer,
             RowNext::Pool(asked) => {
-                let answered = ask(failed, pool, alloc, asked);
+                let answered = ask(failed, pool, alloc, name, asked);
                 next = core.resume(alloc, answered);
             }
         }

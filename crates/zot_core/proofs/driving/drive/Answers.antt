@@ -1,3 +1,5 @@
+use Rattle.std.proofs.Common.{◌≡◌, refl}
+use Rattle.zot_core.proofs.RowTurnLemmas.{on_name}
 use Rattle.zot_core.proofs.DrivesLemmas.{begun_drives, goes_on_drives}
 use Rattle.zot_model.specs.declared.row.RowCall.TheVariants.{Ask}
 use Rattle.zot_core.proofs.driving.drive.Goals as goal
@@ -9,6 +11,6 @@ turns-init g c =
 
 pub turns-preserved : goal.turns-preserved
 turns-preserved g c =
-    goes_on_drives c.args.core.now c.args.failed.now c.args.pool.now.shards.items c.args.moment (Ask c.args.request.now) c.in-Pool.asked c.turns.next c.turns.core c.turns.failed c.turns.pool.shards.items c.requires.own c.in-Pool.is c.turns.invariant
+    goes_on_drives c.args.core.now c.args.failed.now c.args.pool.now.shards.items c.args.moment (Ask c.args.request.now) c.in-Pool.asked c.turns.next c.turns.core c.turns.failed c.turns.pool.shards.items c.requires.own c.in-Pool.is c.turns.invariant c.in-Some.name (on_name (λ n. n ≡ c.in-Some.name) (Ask c.args.request.now) c.args.request.now c.in-Some.name refl c.in-Some.is refl)
     c.ask-answered.result c.ask-answered.new.failed c.ask-answered.new.pool.shards.items c.ask-answered.ensures c.resume-next.result c.resume-next.new.self c.resume-next.ensures.answer c.resume-next.ensures.idle c.resume-next.ensures.faults c.resume-next.ensures.fits
     c.resume-next.ensures.falls c.resume-next.ensures.beside c.resume-next.ensures.names c.resume-next.ensures.row c.resume-next.ensures.config c.resume-next.ensures.opened

@@ -1,4 +1,3 @@
-use Rattle.std.proofs.Common.{ℕ}
 use Rattle.zot_core.specs.RowGoing.{pending_of}
 use Rattle.zot_core.specs.Shards.{Drives}
 use Rattle.zot_model.specs.declared.row.RowCall.TheVariants.{Ask}

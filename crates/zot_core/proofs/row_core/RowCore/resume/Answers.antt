@@ -1,4 +1,4 @@
-use Rattle.std.proofs.Common.{◌≡◌, ◌<◌, Option, sym, subst, ◌∙◌}
+use Rattle.std.proofs.Common.{◌<◌, Option, sym, subst, ◌∙◌}
 use Rattle.zot_model.specs.declared.row.RowCall.{RowCall}
 use Rattle.zot_core.specs.RowGoing.{FitsNext, GoesOnRow, IsForCall, IsOwn, IsPlaced, KeepsBeside, Rests, pending_of}
 use Rattle.zot_core.specs.declared.waiting.Waiting.{Waiting}
