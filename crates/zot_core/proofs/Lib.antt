@@ -1,0 +1,9 @@
+pub mod RowLemmas
+pub mod RowStepLemmas
+pub mod StandLemmas
+pub mod TakingLemmas
+pub mod RowTurnLemmas
+pub mod AskLemmas
+pub mod DriveLemmas
+pub mod DrivesLemmas
+pub mod StepLemmas

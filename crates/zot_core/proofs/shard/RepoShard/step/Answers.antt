@@ -1,0 +1,32 @@
+use Rattle.std.proofs.Common.{◌≡◌, ◌+◌}
+use Rattle.std.specs.Prelude.{sum}
+use Rattle.zot_contents.specs.Pool.{Holders}
+use Rattle.zot_pool.specs.Pools.{faults_of, holds, objects_of}
+use Rattle.zot_core.proofs.AskLemmas.{both_each}
+use Rattle.zot_core.proofs.StepLemmas.{led_steps, unfailed_stays}
+use Rattle.zot_core.specs.RowGoing.{IsOwn, OnName}
+use Rattle.zot_core.specs.Rows.{AgreesRow}
+use Rattle.zot_core.specs.Shards.{IsUnfailed, KeepsOtherNames, Led, StepsRow}
+use Rattle.zot_core.specs.declared.row_next.RowNext.TheVariants as nexts
+use Rattle.zot_core.proofs.shard.RepoShard.step.Goals as goal
+
+pub returns-clause-answer : goal.returns-clause-answer
+returns-clause-answer g c =
+    both_each (holds (objects_of c.args.pool.now.shards.items)) (holds (objects_of c.drive.new.pool.shards.items))
+    (λ (held behind : Holders). AgreesRow (IsOwn c.args.self.now.core.config c.args.self.now.core.row) c.args.self.now.core.repos held → Led (IsOwn c.args.self.now.core.config c.args.self.now.core.row) c.args.call.now c.args.moment c.args.self.now.core.repos held (g.S.Store.faults c.args.self.now.core.part + c.args.self.now.failed) (nexts.Done c.drive.result) c.drive.new.core.waiting c.drive.new.core.repos behind (g.S.Store.faults c.drive.new.core.part + c.drive.new.failed))
+    (λ (held behind : Holders). AgreesRow (IsOwn c.args.self.now.core.config c.args.self.now.core.row) c.args.self.now.core.repos held → StepsRow (IsOwn c.args.self.now.core.config c.args.self.now.core.row) c.args.self.now.core.repos held (g.S.Store.faults c.args.self.now.core.part + c.args.self.now.failed) c.args.call.now c.args.moment c.drive.result c.drive.new.core.repos behind (g.S.Store.faults c.drive.new.core.part + c.drive.new.failed))
+    (λ held behind led agrees. led_steps (IsOwn c.args.self.now.core.config c.args.self.now.core.row) c.args.call.now c.args.moment c.args.self.now.core.repos held (g.S.Store.faults c.args.self.now.core.part + c.args.self.now.failed) c.drive.result c.drive.new.core.waiting c.drive.new.core.repos behind (g.S.Store.faults c.drive.new.core.part + c.drive.new.failed) (led agrees)) c.drive.ensures.drives.answer
+
+pub returns-clause-others : goal.returns-clause-others
+returns-clause-others g c =
+    both_each (holds (objects_of c.args.pool.now.shards.items)) (holds (objects_of c.drive.new.pool.shards.items))
+    (λ (held behind : Holders). AgreesRow (IsOwn c.args.self.now.core.config c.args.self.now.core.row) c.args.self.now.core.repos held → Led (IsOwn c.args.self.now.core.config c.args.self.now.core.row) c.args.call.now c.args.moment c.args.self.now.core.repos held (g.S.Store.faults c.args.self.now.core.part + c.args.self.now.failed) (nexts.Done c.drive.result) c.drive.new.core.waiting c.drive.new.core.repos behind (g.S.Store.faults c.drive.new.core.part + c.drive.new.failed))
+    (λ (held behind : Holders). AgreesRow (IsOwn c.args.self.now.core.config c.args.self.now.core.row) c.args.self.now.core.repos held → OnName c.args.call.now (λ name. KeepsOtherNames name held behind))
+    (λ held behind led agrees. (led agrees).others) c.drive.ensures.drives.answer
+
+pub returns-clause-unfailed : goal.returns-clause-unfailed
+returns-clause-unfailed g c =
+    both_each (holds (objects_of c.args.pool.now.shards.items)) (holds (objects_of c.drive.new.pool.shards.items))
+    (λ (held behind : Holders). AgreesRow (IsOwn c.args.self.now.core.config c.args.self.now.core.row) c.args.self.now.core.repos held → Led (IsOwn c.args.self.now.core.config c.args.self.now.core.row) c.args.call.now c.args.moment c.args.self.now.core.repos held (g.S.Store.faults c.args.self.now.core.part + c.args.self.now.failed) (nexts.Done c.drive.result) c.drive.new.core.waiting c.drive.new.core.repos behind (g.S.Store.faults c.drive.new.core.part + c.drive.new.failed))
+    (λ (held behind : Holders). AgreesRow (IsOwn c.args.self.now.core.config c.args.self.now.core.row) c.args.self.now.core.repos held → IsUnfailed c.drive.result → c.drive.new.failed ≡ c.args.self.now.failed)
+    (λ held behind led agrees. unfailed_stays (IsOwn c.args.self.now.core.config c.args.self.now.core.row) c.args.call.now c.args.moment c.args.self.now.core.repos held (g.S.Store.faults c.args.self.now.core.part) c.args.self.now.failed c.drive.result c.drive.new.core.waiting c.drive.new.core.repos behind (g.S.Store.faults c.drive.new.core.part) c.drive.new.failed (sum (faults_of c.args.pool.now.shards.items)) (sum (faults_of c.drive.new.pool.shards.items)) (led agrees) c.drive.ensures.drives.cause) c.drive.ensures.drives.answer

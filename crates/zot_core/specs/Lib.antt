@@ -1,0 +1,4 @@
+pub mod Rows
+pub mod RowGoing
+pub mod StandProps
+pub mod Shards
