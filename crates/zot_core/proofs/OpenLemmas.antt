@@ -26,10 +26,9 @@ use Rattle.zot_outside.specs.Objects.{Objects}
 use Rattle.zot_table.proofs.EntryLemmas.{at_each}
 use Rattle.zot_table.proofs.FoundLemmas.{agrees_found, alike_found, found_first, found_more, opened_found}
 use Rattle.zot_table.specs.Opening.{HasFound, IsOpenedWith, opened_by, opened_table, with_found}
-use Rattle.zot_table.specs.Standing.{repo_of}
 use Rattle.zot_table.specs.Tables.{RepoTable, entry_at, filled, fresh_table}
 use Rattle.zot_core.proofs.RowLemmas.{digest_tested, names_own, repo_is, set_table, table_beside, under_digest}
-use Rattle.zot_core.specs.Opening.{AreAllOf, AreOpened, AreOwn, IsHeldBy, IsListed, IsOpenedRepo, IsOpenedRow, with_holding, with_holdings, with_opened}
+use Rattle.zot_core.specs.Opening.{AreAllOf, AreOpened, AreOwn, IsHeldBy, IsOpenedRow, with_holding, with_holdings, with_opened}
 use Rattle.zot_core.specs.RowGoing.{StandsForTables}
 use Rattle.zot_core.specs.Rows.{AgreesRow, NoneFresh, SetsTable, Tables, is_digest, none_held, state_of, table_at, under}
 

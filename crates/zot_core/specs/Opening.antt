@@ -1,5 +1,5 @@
 -- What a row is when it is opened: what its part holds of its repositories, and what is held for them.
-use Rattle.std.specs.Prelude.{◌≡◌, ℕ, List, [], ◌∷◌, length, Option, Some, None, Ok, IfSome, IsSome}
+use Rattle.std.specs.Prelude.{◌≡◌, ℕ, List, [], ◌∷◌, length, Option, Some, Ok, IfSome, IsSome}
 use Rattle.std.specs.FinMap as finite
 use Rattle.std.specs.List.{All, Contains}
 use Rattle.zot_contents.specs.Pool.{Holders}

@@ -42,6 +42,7 @@ impl<S: Store> RowCore<S> {
         ensures agrees { IfOk result (λ core. (holders : Holders) → AreAllOf (IsOwn config row) holders held.items → AgreesRow (IsOwn config row) core.repos holders) }
         ensures state { IfOk result (λ core. IfSome (S.objects part) (λ told. (holders : Holders) → AreAllOf (IsOwn config row) holders held.items
             → IsOpenedRow told moment (IsOwn config row) holders (state_of core.repos holders 0))) }
+        ensures tables { IfOk result (λ core. AreOpened (S.objects part) (IsOwn config row) moment held.items core.repos) }
         ensures idle { IfOk result (λ core. core.waiting ≡ None) }
         ensures names { IfOk result (λ core. NoneFresh None core.repos) }
         ensures objects { IfOk result (λ core. Keeps (S.objects part) (S.objects core.part)) }
@@ -83,6 +84,7 @@ impl<S: Store> RepoShard<S> {
         ensures agrees { IfOk result (λ shard. (holders : Holders) → AreAllOf (IsOwn config row) holders held.items → AgreesRow (IsOwn config row) shard.core.repos holders) }
         ensures state { IfOk result (λ shard. IfSome (S.objects part) (λ told. (holders : Holders) → AreAllOf (IsOwn config row) holders held.items
             → IsOpenedRow told moment (IsOwn config row) holders (state_of shard.core.repos holders 0))) }
+        ensures tables { IfOk result (λ shard. AreOpened (S.objects part) (IsOwn config row) moment held.items shard.core.repos) }
         ensures failed { IfOk result (λ shard. shard.failed ≡ 0) }
         ensures names { IfOk result (λ shard. NoneFresh None shard.core.repos) }
         ensures objects { IfOk result (λ shard. Keeps (S.objects part) (S.objects shard.core.part)) }

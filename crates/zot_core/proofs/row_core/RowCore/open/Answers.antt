@@ -26,3 +26,7 @@ returns-in-Ok-clause-state g c =
     let own = IsOwn c.args.config c.args.row in
     open_state (g.S.Store.objects c.args.part) own c.args.moment c.args.held.items c.in-Ok.repos
     (subst (λ holdings. AreOpened (g.S.Store.objects c.args.part) own c.args.moment holdings c.in-Ok.repos) c.as_slice.ensures.value c.in-Ok.ensures.made) c.requires.own
+
+pub returns-in-Ok-clause-tables : goal.returns-in-Ok-clause-tables
+returns-in-Ok-clause-tables g c =
+    subst (λ holdings. AreOpened (g.S.Store.objects c.args.part) (IsOwn c.args.config c.args.row) c.args.moment holdings c.in-Ok.repos) c.as_slice.ensures.value c.in-Ok.ensures.made

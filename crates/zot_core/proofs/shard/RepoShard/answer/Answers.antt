@@ -5,9 +5,9 @@ use Rattle.zot_model.specs.declared.row.RowCall.TheVariants.{Ask}
 use Rattle.zot_pool.specs.Pools.{faults_of, holds, objects_of}
 use Rattle.zot_core.proofs.AskLemmas.{both_each}
 use Rattle.zot_core.proofs.StepLemmas.{led_steps, unfailed_stays}
-use Rattle.zot_core.specs.RowGoing.{IsOwn, OnName}
+use Rattle.zot_core.specs.RowGoing.{IsOwn}
 use Rattle.zot_core.specs.Rows.{AgreesRow}
-use Rattle.zot_core.specs.Shards.{IsUnfailed, KeepsOtherNames, Led, StepsRow}
+use Rattle.zot_core.specs.Shards.{IsUnfailed, Led, StepsRow}
 use Rattle.zot_core.specs.declared.row_next.RowNext.TheVariants as nexts
 use Rattle.zot_core.proofs.shard.RepoShard.answer.Goals as goal
 
