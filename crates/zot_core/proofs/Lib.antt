@@ -7,4 +7,6 @@ pub mod AskLemmas
 pub mod DriveLemmas
 pub mod DrivesLemmas
 pub mod StepLemmas
+pub mod OpenedLemmas
+pub mod HeldLemmas
 pub mod OpenLemmas
