@@ -1,2 +1,4 @@
 pub mod Histories
 pub mod Listing
+pub mod Agreed
+pub mod Rows

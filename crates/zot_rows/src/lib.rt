@@ -1,8 +1,12 @@
-//! The rows of a cluster over one pool: what each row's repositories hold.
+//! The rows of a cluster over one pool: what each row's repositories hold, and requests on them.
 #![tactic(auto)]
 
+mod answering;
+mod closing;
 mod listing;
+mod rows;
 mod rows_open_error;
 
 pub use crate::listing::held_by_rows;
+pub use crate::rows::Rows;
 pub use crate::rows_open_error::RowsOpenError;

@@ -1,0 +1,40 @@
+//! Requests answered by the rows of a cluster.
+ghost use Rattle.std.specs.Prelude.{◌≡◌, IfSome};
+ghost use Rattle.zot_model.specs.Fits.{IsFitting};
+ghost use Rattle.zot_model.specs.History.{IsNamed};
+ghost use Rattle.zot_model.specs.declared.row.RowCall.TheVariants.{Ask};
+ghost use Rattle.zot_model.specs.declared.row.RowReply.TheVariants as answers;
+ghost use Rattle.zot_pool.specs.Pools.{AreDeduped, AreTightPool};
+ghost use Rattle.zot_rows.specs.Histories.{BothTell, EntersRow};
+ghost use Rattle.zot_rows.specs.Rows.{AreAgreedIn, HaveCause, failed_in, pool_faults, row_for, states_of};
+
+use crate::rows::Rows;
+use std::alloc::Global;
+use zot_model::{Reply, Request};
+use zot_outside::Store;
+use zot_siphash::{owners_and_rows, row_of};
+
+impl<S: Store> Rows<S> {
+    /// The reply to a request on a repository, at a moment in seconds, by the row of its name: as the plain registry answers, or that memory ran out or the storage failed. The request is borrowed, so what is stored of it is copied. Every other row stays as it is. Where what the pool holds fits what the rows keep, it does so afterwards.
+    ///
+    /// STORAGE_FAULT comes only where a part failed: the row's own, or that of the pool which was asked.
+    pub fn reply_to(&mut self, alloc: Global, request: &Request, moment: u64) -> Reply
+        requires { IsNamed (Ask request.now) }
+        ensures answers { AreAgreedIn self.old → BothTell (states_of self.old) (states_of self.new) (λ old new. IfSome request.now.name (λ name. EntersRow (row_for self.old name) old (Ask request.now) moment (answers.Reply result) new)) }
+        ensures agreed { AreAgreedIn self.old → AreAgreedIn self.new }
+        ensures cause { HaveCause (pool_faults self.old) (pool_faults self.new) (failed_in self.old) (failed_in self.new) }
+        ensures fits { IsFitting (Ask request.now) (answers.Reply result) }
+        ensures config { self.new.config ≡ self.old.config }
+        ensures tight { AreDeduped self.old.pool.shards.items → AreTightPool self.old.pool.shards.items → AreTightPool self.new.pool.shards.items }
+        ensures dedupe { AreDeduped self.old.pool.shards.items → AreDeduped self.new.pool.shards.items }
+    {
+        let Some(name) = &request.name else {
+            unreachable!()
+        };
+        // The row is one of those that there are.
+        owners_and_rows();
+        let number = row_of(&self.config.key, name.as_slice(), self.config.members);
+        let row = &mut self.rows[number as usize];
+        row.reply_to(&mut self.pool, alloc, request, moment)
+    }
+}
