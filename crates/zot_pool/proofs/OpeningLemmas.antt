@@ -39,18 +39,18 @@ split_at [] x k within is = absurd (omega arith)
 split_at (y ∷ xs) x zero within is = ap (λ z. z ∷ xs) (sym is)
 split_at (y ∷ xs) x (suc k) within is = ap (λ l. y ∷ l) (split_at xs x k (omega arith) is)
 
-other_at : {X : Type 0} (front : List X) (x y : X) (back : List X) → ChangesOnly (length front) (front ++ (x ∷ back)) (front ++ (y ∷ back))
+pub other_at : {X : Type 0} (front : List X) (x y : X) (back : List X) → ChangesOnly (length front) (front ++ (x ∷ back)) (front ++ (y ∷ back))
 other_at [] x y back zero apart = absurd (apart refl)
 other_at [] x y back (suc other) apart = refl
 other_at (z ∷ front) x y back zero apart = refl
 other_at (z ∷ front) x y back (suc other) apart = other_at front x y back other (λ e. apart (ap suc e))
 
-in_front : {X : Type 0} (front back : List X) (k : ℕ) → k < length front → slice_get (front ++ back) k ≡ slice_get front k
+pub in_front : {X : Type 0} (front back : List X) (k : ℕ) → k < length front → slice_get (front ++ back) k ≡ slice_get front k
 in_front [] back k within = absurd (omega arith)
 in_front (x ∷ front) back zero within = refl
 in_front (x ∷ front) back (suc k) within = in_front front back k (omega arith)
 
-at_seam : {X : Type 0} (front : List X) (x : X) (back : List X) → slice_get (front ++ (x ∷ back)) (length front) ≡ Some x
+pub at_seam : {X : Type 0} (front : List X) (x : X) (back : List X) → slice_get (front ++ (x ∷ back)) (length front) ≡ Some x
 at_seam [] x back = refl
 at_seam (y ∷ front) x back = at_seam front x back
 

@@ -1,3 +1,4 @@
 pub mod HistoryLemmas
 pub mod ListingLemmas
 pub mod AnswerLemmas
+pub mod OpeningLemmas

@@ -2,3 +2,4 @@ pub mod Histories
 pub mod Listing
 pub mod Agreed
 pub mod Rows
+pub mod Opening

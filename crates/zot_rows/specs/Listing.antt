@@ -1,11 +1,12 @@
 -- What is held for the repositories of each row, listed row by row, and why it isn't.
 use Rattle.std.specs.Prelude.{◌≡◌, ◌≢◌, ◌<◌, ℕ, ◌*◌, ◌==◌, List, ◌++◌, length, map, Option, Some, IfSome, IsSome}
 use Rattle.std.specs.Global.{Vec}
-use Rattle.std.specs.List.{All, AllPairs, Contains, filter, range_with_len, slice_get}
+use Rattle.std.specs.List.{All, AllPairs, filter, range_with_len, slice_get}
 use Rattle.zot_contents.specs.Listing.{place_of}
 use Rattle.zot_contents.specs.Pool.{Holders}
 use Rattle.zot_contents.specs.declared.holding.Holding.{Holding}
 use Rattle.zot_contents.specs.Shards.{shard_of}
+use Rattle.zot_core.specs.Opening.{AreAllOf, AreOwn, IsHeldBy, IsListed}
 use Rattle.zot_digest.specs.Digest.{IsDigest}
 use Rattle.zot_names.specs.Name.{IsName}
 use Rattle.zot_layout.specs.Rows.{IsOfRow}
@@ -45,31 +46,9 @@ EachRow P lists = (row : ℕ) (holdings : List Holding) → slice_get lists row 
 
 -- ---- one row's list
 
--- a holding's repository is one of these, and its digest is one
-abbrev pub AreOwn : (List ℕ → Type 0) → List Holding → Type 0
-AreOwn Own holdings = All (λ h. Own h.name × IsDigest h.digest) holdings
-
 -- no two holdings are of the same repository and digest
 abbrev pub AreApart : List Holding → Type 0
 AreApart holdings = AllPairs (λ h other. place_of h ≢ place_of other) holdings
-
--- what a holding says is so: the repository holds so many bytes under the digest
-pub record IsHeldBy (held : Holders) (holding : Holding) : Type 0 where
-  pub bytes : List ℕ
-  pub holds : held holding.digest holding.name ≡ Some bytes
-  pub size : holding.size ≡ length bytes
-
--- a repository's holding under a digest is listed
-pub record IsListed (holdings : List Holding) (digest name : List ℕ) : Type 0 where
-  pub holding : Holding
-  pub has : Contains holdings holding
-  pub digest_is : holding.digest ≡ digest
-  pub name_is : holding.name ≡ name
-
--- the holdings are all that is held for these repositories
-pub record AreAllOf (Own : List ℕ → Type 0) (held : Holders) (holdings : List Holding) : Type 0 where
-  pub listed : All (IsHeldBy held) holdings
-  pub all : (digest name : List ℕ) → IsDigest digest → Own name → IsSome (held digest name) → IsListed holdings digest name
 
 -- ---- all lists
 

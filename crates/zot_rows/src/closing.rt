@@ -1,10 +1,11 @@
 //! Closing the rows of a cluster.
-ghost use Rattle.std.specs.Prelude.{◌≡◌, ◌<◌, ◌≤◌, ◌+◌, ◌∷◌, ◌++◌, map as each, vec_len};
+ghost use Rattle.std.specs.Prelude.{◌≡◌, ◌≤◌, ◌+◌, ◌++◌, map as each, vec_len};
 ghost use Rattle.std.specs.Vec.{vec_capacity};
 ghost use Rattle.zot_pool.specs.Opening.{AreTightTrees};
 ghost use Rattle.zot_pool.specs.Pools.{AreTightPool};
 ghost use Rattle.zot_rows.specs.Agreed.{AllStand};
 
+use crate::room::put_first;
 use crate::rows::Rows;
 use zot_core::RepoShard;
 use zot_outside::Store;
@@ -24,25 +25,13 @@ impl<S: Store + Drop> Rows<S> {
     }
 }
 
-// Puts the parts of the rows before others, in their order. Takes no memory.
-fn give_back<S: Store + Drop>(rows: Vec<RepoShard<S>>, parts: &mut Vec<S>)
+/// Puts the parts of the rows before others, in their order. Takes no memory.
+pub(crate) fn give_back<S: Store + Drop>(rows: Vec<RepoShard<S>>, parts: &mut Vec<S>)
     requires { vec_len rows + vec_len parts.old ≤ vec_capacity parts.old }
     ensures { parts.new.items ≡ each (λ r. r.core.part) rows.items ++ parts.old.items }
 {
     let mut rows = rows;
     while let Some(row) = rows.pop() {
         put_first(parts, row.close());
-    }
-}
-
-// Adds an item before the others. Takes no memory.
-fn put_first<T: Drop>(items: &mut Vec<T>, item: T)
-    requires { vec_len items.old < vec_capacity items.old }
-    ensures items { items.new.items ≡ item ∷ items.old.items }
-    ensures room { vec_capacity items.old ≤ vec_capacity items.new }
-{
-    match items.insert(0, item) {
-        Ok(()) => {}
-        Err(_) => unreachable!(),
     }
 }

@@ -4,9 +4,13 @@
 mod answering;
 mod closing;
 mod listing;
+mod opening;
+mod room;
 mod rows;
 mod rows_open_error;
+mod unopened_rows;
 
 pub use crate::listing::held_by_rows;
 pub use crate::rows::Rows;
 pub use crate::rows_open_error::RowsOpenError;
+pub use crate::unopened_rows::UnopenedRows;
