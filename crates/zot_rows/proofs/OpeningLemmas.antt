@@ -49,6 +49,13 @@ all_listed : (config : RowConfig) (lists : List (List Holding)) (held : Holders)
     → (m : ℕ) → m < rows_of config.members → AreAllOf (IsOwn config m) held (get_or lists m [])
 all_listed config lists held many each m within = each m (get_or lists m []) (slice_get-get_or lists m [] (subst (λ n. m < n) (sym many) within))
 
+-- where a row's tables are opened, the objects of its part have a meaning
+pub opened_whole : (objects : Option Objects) (Own : List ℕ → Type 0) (moment : ℕ) (holdings : List Holding) (tables : Tables) → AreOpened objects Own moment holdings tables → IfSome objects (λ told. AreWhole told moment Own)
+opened_whole objects Own moment holdings tables made = by objects made.opens where
+  by : (o : Option Objects) → IfSome o (λ told. OpensRow told Own moment (Ok made.opened)) → IfSome o (λ told. AreWhole told moment Own)
+  by None opens = tt
+  by (Some told) opens = record { opened = made.opened; opens = opens }
+
 -- ---- one row more
 
 module _ {S : Type 0} {G : Ghosts S} (config : RowConfig) (moment : ℕ) (lists : List (List Holding)) where
@@ -253,18 +260,11 @@ module _ {S : Type 0} {G : Ghosts S} (config : RowConfig) (moment : ℕ) (lists 
         subst (λ e. OnBadRow e (IsFirstBadRow config moment (map G.objects parts))) (sym stops.error_is)
         (bad_of (length stops.done) (IsFirstBadRow config moment (map G.objects parts)) stops.fault (first_bad many))
 
--- ---- what isn't of one row alone
+-- ---- a pool that is closed
 
--- what is seen of the parts of a pool that is closed
+-- what is seen of its parts
 pub closed_parts : {S : Type 0} {G : Ghosts S} {X : Type 0} (f : S → X) (owned : List (DigestShard S G)) (parts : List S) → parts ≡ map (λ s. s.part) owned → map f parts ≡ map (λ s. f s.part) owned
 closed_parts {S} {G} f owned parts is = ap (map f) is ∙ twice owned where
   twice : (l : List (DigestShard S G)) → map f (map (λ s. s.part) l) ≡ map (λ s. f s.part) l
   twice [] = refl
   twice (s ∷ l) = ap (λ m. f s.part ∷ m) (twice l)
-
--- what a row's tables were made of tells that its part's objects have a meaning
-pub opened_whole : (objects : Option Objects) (Own : List ℕ → Type 0) (moment : ℕ) (holdings : List Holding) (tables : Tables) → AreOpened objects Own moment holdings tables → IfSome objects (λ told. AreWhole told moment Own)
-opened_whole objects Own moment holdings tables made = by objects made.opens where
-  by : (o : Option Objects) → IfSome o (λ told. OpensRow told Own moment (Ok made.opened)) → IfSome o (λ told. AreWhole told moment Own)
-  by None opens = tt
-  by (Some told) opens = record { opened = made.opened; opens = opens }

@@ -1,4 +1,6 @@
 //! The rows of a cluster over one pool: what each row's repositories hold, and requests on them.
+//!
+//! `Rows::open(alloc, config, parts, shards, dedupe, moment)` opens them, and the pool, over their parts of the store; `close` gives the parts back.
 #![tactic(auto)]
 
 mod answering;
