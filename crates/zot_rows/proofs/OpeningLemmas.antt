@@ -27,7 +27,7 @@ use Rattle.zot_pool.proofs.OpeningLemmas.{at_seam, in_front, other_at}
 use Rattle.zot_pool.specs.Pools.{ChangesOnly, part_at}
 use Rattle.zot_rows.specs.Agreed.{AreAgreed, AreRows, IsRow}
 use Rattle.zot_rows.specs.Listing.{EachHeld, EachOwn, lists_of, rows_of}
-use Rattle.zot_rows.specs.Opening.{AreOpenedOver, AreOpenedRows, AreWhole, HasRowsCause, IsFirstBadRow, IsOpenedOver, OnBadRow, StopsAtRow, row_error}
+use Rattle.zot_rows.specs.Opening.{AllAreWhole, AreOpenedOver, AreOpenedRows, AreWhole, HasRowsCause, IsFirstBadRow, IsOpenedOver, OnBadRow, StopsAtRow, row_error}
 use Rattle.zot_rows.specs.Rows.{faults_of_row, states_beside}
 use Rattle.zot_rows.specs.declared.rows_open_error.RowsOpenError.{RowsOpenError}
 
@@ -118,6 +118,9 @@ module _ {S : Type 0} {G : Ghosts S} (config : RowConfig) (moment : ℕ) (lists 
   parts_whole n (p ∷ parts) (r ∷ rows) h zero = subst (λ m. IfSome (G.objects p) (λ told. AreWhole told moment (IsOwn config m))) (omega arith) h.0.whole
   parts_whole n (p ∷ parts) (r ∷ rows) h (suc k) =
       subst (λ m. IfSome (part_at (map G.objects parts) k) (λ told. AreWhole told moment (IsOwn config m))) (omega arith) (parts_whole (n + 1) parts rows h.1 k)
+
+  pub rows_whole : (parts : List S) (rows : List (RepoShard S G)) → Over 0 parts rows → AllAreWhole config moment (map G.objects parts)
+  rows_whole parts rows h = λ number _. subst (λ m. IfSome (part_at (map G.objects parts) number) (λ told. AreWhole told moment (IsOwn config m))) (omega arith) (parts_whole 0 parts rows h number)
 
   -- what is held fits the rows
   module _ (held : Holders) (top : ℕ) (are : (m : ℕ) → m < top → AreAllOf (IsOwn config m) held (get_or lists m [])) where

@@ -78,6 +78,10 @@ pub record AreWhole (objects : Objects) (moment : ℕ) (Own : List ℕ → Type 
   pub opened : List Opened
   pub opens : OpensRow objects Own moment (Ok opened)
 
+-- so does each row's part, where it tells
+abbrev pub AllAreWhole : RowConfig → ℕ → List (Option Objects) → Type 0
+AllAreWhole config moment parts = (number : ℕ) → number < rows_of config.members → IfSome (part_at parts number) (λ told. AreWhole told moment (IsOwn config number))
+
 -- the first row that holds an object without a meaning is refused for it, where the parts tell
 pub record IsFirstBadRow (config : RowConfig) (moment : ℕ) (parts : List (Option Objects)) (fault : LayoutError) : Type 0 where
   pub number : ℕ

@@ -7,7 +7,7 @@ ghost use Rattle.zot_pool.specs.Opening.{AllHaveMeaning, AreTightTrees};
 ghost use Rattle.zot_pool.specs.Pools.{AreDeduped, AreTightPool, faults_of, holds, objects_of};
 ghost use Rattle.zot_siphash.specs.Owners.{AreMembers};
 ghost use Rattle.zot_rows.specs.Listing.{EachOwn, lists_of, rows_of};
-ghost use Rattle.zot_rows.specs.Opening.{AreAllOpened, AreOpenedOver, AreOpenedRows, HasRowsCause, IsFirstBadRow, OnBadRow, RefusesObject, StopsAtRow, pool_error, row_error};
+ghost use Rattle.zot_rows.specs.Opening.{AllAreWhole, AreAllOpened, AreOpenedOver, AreOpenedRows, HasRowsCause, IsFirstBadRow, OnBadRow, RefusesObject, StopsAtRow, pool_error, row_error};
 ghost use Rattle.zot_rows.specs.Rows.{AreAgreedIn, failed_in, states_beside};
 
 use crate::closing::give_back;
@@ -46,6 +46,7 @@ impl<S: Store + Drop> Rows<S> {
         ensures pooled { IfOk result (λ rows. objects_of rows.pool.shards.items ≡ each S.objects shards.items) }
         ensures quiet { IfOk result (λ rows. each (λ r. S.faults r.core.part) rows.rows.items ≡ each S.faults parts.items) }
         ensures still { IfOk result (λ rows. faults_of rows.pool.shards.items ≡ each S.faults shards.items) }
+        ensures whole { OnOk result (AllAreWhole config moment (each S.objects parts.items)) }
         ensures meaning { OnOk result (AllHaveMeaning (each S.objects shards.items)) }
         ensures tight { IfOk result (λ rows. AreTightTrees (each S.objects shards.items) → AreTightPool rows.pool.shards.items) }
         ensures dedupe { IfOk result (λ rows. dedupe ≡ true → AreDeduped rows.pool.shards.items) }

@@ -1,6 +1,6 @@
 use Rattle.std.proofs.Common.{arith, IfSome, map as each, sym, subst, ◌∙◌}
 use Rattle.zot_pool.specs.Pools.{holds, objects_of}
-use Rattle.zot_rows.proofs.OpeningLemmas.{closed_parts, rows_agreed, rows_failed, rows_faults, rows_numbered, rows_objects, rows_state}
+use Rattle.zot_rows.proofs.OpeningLemmas.{closed_parts, rows_agreed, rows_failed, rows_faults, rows_numbered, rows_objects, rows_state, rows_whole}
 use Rattle.zot_rows.specs.Agreed.{AreAgreed}
 use Rattle.zot_rows.specs.Opening.{AreOpenedRows, HasRowsCause}
 use Rattle.zot_rows.specs.Rows.{states_beside}
@@ -41,6 +41,11 @@ pub returns-in-Ok-open_rows-clause-quiet : goal.returns-in-Ok-open_rows-clause-q
 returns-in-Ok-open_rows-clause-quiet g c =
     let all = c.in-Ok-open_rows.ensures.opened in
     rows_faults c.args.config c.args.moment all.lists 0 c.args.parts.items c.in-Ok-open_rows.rows.items all.opened
+
+pub returns-in-Ok-open_rows-clause-whole : goal.returns-in-Ok-open_rows-clause-whole
+returns-in-Ok-open_rows-clause-whole g c =
+    let all = c.in-Ok-open_rows.ensures.opened in
+    rows_whole c.args.config c.args.moment all.lists c.args.parts.items c.in-Ok-open_rows.rows.items all.opened
 
 pub returns-in-Ok-open_rows-clause-tight : goal.returns-in-Ok-open_rows-clause-tight
 returns-in-Ok-open_rows-clause-tight g c trees = c.in-Ok-open_rows.ensures.tight (c.in-Ok.ensures.tight trees)
