@@ -3,6 +3,7 @@ use Rattle.std.specs.Prelude.{sum}
 use Rattle.zot_core.specs.RowGoing.{IsOwn}
 use Rattle.zot_pool.specs.Pools.{faults_of, holds, objects_of}
 use Rattle.zot_rows.proofs.AnswerLemmas.{agreed_then, answered, counts, still_rows}
+use Rattle.zot_rows.proofs.SeatLemmas.{owners_enter}
 use Rattle.zot_rows.specs.Rows.{row_by}
 use Rattle.zot_siphash.specs.SipHash.{siphash}
 use Rattle.zot_rows.proofs.rows.Rows.reply_to.Goals as goal
@@ -47,3 +48,8 @@ returns-clause-cause g c =
     let within = subst (λ n. n < length rows) here (subst (λ m. row_by self.config name < m) (sym self.numbered.many) (c.owners_and_rows.ensures.rows (siphash self.config.key name) self.config.members self.members.0)) in
     counts self.config rows c.row_of-number.result c.index_mut-row.result.now c.reply_to.new.self within c.index_mut-row.ensures.value self.numbered c.reply_to.ensures.row c.reply_to.ensures.config
     (sum (faults_of self.pool.shards.items)) (sum (faults_of c.reply_to.new.pool.shards.items)) c.reply_to.ensures.later c.reply_to.ensures.counted
+
+pub returns-clause-seats : goal.returns-clause-seats
+returns-clause-seats g c =
+    let self = c.args.self.now in
+    owners_enter self.config c.in-Some.name c.args.request.now.name (holds (objects_of self.pool.shards.items)) (holds (objects_of c.reply_to.new.pool.shards.items)) c.in-Some.is c.reply_to.ensures.entries
