@@ -1,5 +1,4 @@
-pub mod ReplyLemmas
+pub mod AnswerLemmas
 pub mod ReadLemmas
-pub mod ManifestLemmas
+pub mod ReferrerLemmas
 pub mod RowLemmas
-pub mod SubjectLemmas

@@ -7,12 +7,13 @@ use Rattle.std.specs.FinMap.{get-empty, get-insert, get-remove}
 use Rattle.std.specs.Ordering.{eq_by_cmp}
 use Rattle.std.proofs.lemmas.Bool.{true≢false}
 use Rattle.zot_digest.specs.ByteMap.{ByteMap, byte_cmp}
-use Rattle.zot_manifests.proofs.TableLemmas.{get_plain, plain_empty, plain_insert, plain_none}
+use Rattle.zot_manifests.proofs.TableLemmas.{get_plain, plain_empty, plain_none}
 use Rattle.zot_manifests.specs.Table.{Table, empty_table, is_referred as is_kept_referred, plain_manifest, plain_manifests}
+use Rattle.zot_manifests.specs.declared.checked.Checked.{Checked}
 use Rattle.zot_manifests.specs.declared.kept.Kept.{Kept}
 use Rattle.zot_maps.proofs.Entries.{any_found}
-use Rattle.zot_maps.proofs.Maps.{byte_order, get_elsewhere, get_here, insert-same, removed_elsewhere, same_key, tied_keys}
-use Rattle.zot_media.specs.Manifest.{stored_reading}
+use Rattle.zot_maps.proofs.Maps.{byte_order, get_elsewhere, get_here, removed_elsewhere, same_key, tied_keys}
+use Rattle.zot_media.specs.Manifest.{empty_reading, stored_reading}
 use Rattle.zot_media.specs.References.{refers}
 use Rattle.zot_media.specs.declared.reading.Reading.{Reading}
 use Rattle.zot_model.proofs.KeptLemmas.{found_any}
@@ -20,14 +21,13 @@ use Rattle.zot_model.specs.Manifests.{is_needed, is_referred, reading_at, readin
 use Rattle.zot_model.specs.Outcomes.{with_blob}
 use Rattle.zot_model.specs.State.{RepoState, Stored, StoredManifest, fresh}
 use Rattle.zot_model.specs.Uploads.{UploadTable, no_uploads}
-use Rattle.zot_repo.specs.Repository.{AreRead, IsReadOf, read_again, repo_of, rereads, rereads_found}
+use Rattle.zot_repo.specs.Repository.{AreRead, IsHeld, IsReadOf}
+use Rattle.zot_table.proofs.StandingLemmas.{reread_is, same_kept}
+use Rattle.zot_table.specs.Repository.{IsOf, plain_of, read_again, rereads, rereads_found}
 
 none_and : (P : Stored → Type 0) (o : Option Stored) → o ≡ None → ¬ (IsSomeAnd o P)
 none_and P None h is = absurd is
 none_and P (Some s) h is = cc h
-
-same_kept : (x y : Kept) → Some x ≡ Some y → x ≡ y
-same_kept x y h = ap (λ o. unwrap_or o x) h
 
 -- a digest is another one, or this one
 apart : (q key : List ℕ) → eq_by_cmp byte_cmp q key ≡ false → q ≢ key
@@ -60,6 +60,13 @@ reads_without manifests blobs new digest is none reads q found has =
       split true tied = cc (sym has ∙ ap (map.get manifests) (tied_keys byte_order q digest tied) ∙ none)
       split false free = subst (λ o. IsSomeAnd o (IsReadOf found)) (sym (ap (λ m. map.get m q) is ∙ removed_elsewhere byte_order blobs digest q (apart q digest free))) (reads q found has)
 
+-- its bytes are held where they are a blob
+pub held_of : (moment : ℕ) (repo new : RepoState) (checked : Checked) (body : List ℕ) → new ≡ with_blob moment repo checked.digest body → IsOf checked body → IsHeld checked new.blobs
+held_of moment repo new checked body is h =
+    subst (λ o. IsSomeAnd o (λ (s : Stored). checked.reading ≡ stored_reading checked.media s.bytes))
+    (sym (ap (λ (r : RepoState). map.get r.blobs checked.digest) is ∙ get_here byte_order repo.blobs checked.digest (record { bytes = body; arrived = moment })))
+    (sym (ap (λ o. unwrap_or o empty_reading) h.read))
+
 -- ---- reading again
 
 module _ (table : Table) (blobs : ByteMap Stored) (digest bytes : List ℕ) where
@@ -81,17 +88,6 @@ module _ (table : Table) (blobs : ByteMap Stored) (digest bytes : List ℕ) wher
             (subst (λ (k : Kept). k.reading ≡ stored_reading k.media bytes) (same_kept (read_again before bytes) kept h) refl)
         split false free h = subst (λ o. IsSomeAnd o (IsReadOf kept)) (sym (get_elsewhere byte_order blobs digest (record { bytes = bytes; arrived = arrived }) q (apart q digest free))) (reads q kept h)
 
-  -- the plain registry's manifests are the same
-  found_plain : (found : Option Kept) → map.get table.manifests digest ≡ found → plain_manifests (rereads_found table digest bytes found).manifests ≡ plain_manifests table.manifests
-  found_plain None none = refl
-  found_plain (Some before) here =
-      plain_insert table.manifests digest (read_again before bytes)
-      ∙ insert-same byte_order (plain_manifests table.manifests) digest (plain_manifest before) (get_plain table.manifests digest ∙ ap (option_map plain_manifest) here)
-
-  found_tags : (found : Option Kept) → (rereads_found table digest bytes found).tags ≡ table.tags
-  found_tags None = refl
-  found_tags (Some before) = refl
-
   -- where the blob isn't there, neither is a manifest
   nothing : AreRead table.manifests blobs → map.get blobs digest ≡ None → map.get table.manifests digest ≡ None
   nothing reads none = split (map.get table.manifests digest) refl where
@@ -105,14 +101,11 @@ module _ (table : Table) (blobs : ByteMap Stored) (digest bytes : List ℕ) wher
       (subst (λ (b : ByteMap Stored). AreRead (rereads table digest bytes).manifests b) (sym are) (found_reads arrived (map.get table.manifests digest) refl reads))
 
   pub put_is : (known : Bool) (sessions : UploadTable) (new : Table) (after : ByteMap Stored) (arrived : ℕ) → new ≡ rereads table digest bytes → after ≡ map.insert blobs digest (record { bytes = bytes; arrived = arrived })
-      → repo_of true after new sessions ≡ with_blob arrived (repo_of known blobs table sessions) digest bytes
+      → plain_of true after new sessions ≡ with_blob arrived (plain_of known blobs table sessions) digest bytes
   put_is known sessions new after arrived is are =
-      ap (λ (b : ByteMap Stored). repo_of true b new sessions) are
-      ∙ ap (λ (t : Table). repo_of true (map.insert blobs digest (record { bytes = bytes; arrived = arrived })) t sessions) is
-      ∙ ap (λ (m : ByteMap StoredManifest). record { known = true; blobs = map.insert blobs digest (record { bytes = bytes; arrived = arrived }); manifests = m; tags = (rereads table digest bytes).tags; sessions = sessions })
-      (found_plain (map.get table.manifests digest) refl)
-      ∙ ap (λ t. record { known = true; blobs = map.insert blobs digest (record { bytes = bytes; arrived = arrived }); manifests = plain_manifests table.manifests; tags = t; sessions = sessions })
-      (found_tags (map.get table.manifests digest))
+      ap (λ (b : ByteMap Stored). plain_of true b new sessions) are
+      ∙ ap (λ (t : Table). plain_of true (map.insert blobs digest (record { bytes = bytes; arrived = arrived })) t sessions) is
+      ∙ reread_is table digest bytes true (map.insert blobs digest (record { bytes = bytes; arrived = arrived })) sessions
 
   pub not_reread : (new : Table) → new ≡ rereads table digest bytes → AreRead table.manifests blobs → map.get blobs digest ≡ None → new ≡ table
   not_reread new is reads none = is ∙ ap (rereads_found table digest bytes) (nothing reads none)
@@ -132,7 +125,7 @@ same_test false false f g = refl
 
 module _ (known : Bool) (blobs : ByteMap Stored) (table : Table) (sessions : UploadTable) (reads : AreRead table.manifests blobs) where
   abbrev repo : RepoState
-  repo = repo_of known blobs table sessions
+  repo = plain_of known blobs table sessions
 
   -- what the plain registry says of a manifest is what the table does
   same_reading : (digest : List ℕ) (kept : Kept) → map.get table.manifests digest ≡ Some kept → reading_at repo digest (plain_manifest kept) ≡ kept.reading
@@ -177,15 +170,15 @@ module _ (known : Bool) (blobs : ByteMap Stored) (table : Table) (sessions : Upl
 -- ---- a fresh repository
 
 module _ (known : Bool) (blobs : ByteMap Stored) (table : Table) (sessions : UploadTable) where
-  pub fresh_is : known ≡ false → blobs ≡ map.empty → table ≡ empty_table → sessions ≡ no_uploads → repo_of known blobs table sessions ≡ fresh
+  pub fresh_is : known ≡ false → blobs ≡ map.empty → table ≡ empty_table → sessions ≡ no_uploads → plain_of known blobs table sessions ≡ fresh
   fresh_is unknown none empty new =
-      ap (λ k. repo_of k blobs table sessions) unknown
-      ∙ ap (λ (b : ByteMap Stored). repo_of false b table sessions) none
-      ∙ ap (λ (t : Table). repo_of false map.empty t sessions) empty
-      ∙ ap (λ (u : UploadTable). repo_of false map.empty empty_table u) new
+      ap (λ k. plain_of k blobs table sessions) unknown
+      ∙ ap (λ (b : ByteMap Stored). plain_of false b table sessions) none
+      ∙ ap (λ (t : Table). plain_of false map.empty t sessions) empty
+      ∙ ap (λ (u : UploadTable). plain_of false map.empty empty_table u) new
       ∙ ap (λ (m : ByteMap StoredManifest). record { known = false; blobs = map.empty; manifests = m; tags = map.empty; sessions = no_uploads }) plain_empty
 
-  pub empty_is : repo_of known blobs table sessions ≡ fresh → table ≡ empty_table
+  pub empty_is : plain_of known blobs table sessions ≡ fresh → table ≡ empty_table
   empty_is h =
       ap (λ (m : ByteMap Kept). record { manifests = m; tags = table.tags }) (plain_none table.manifests (ap (λ (r : RepoState). r.manifests) h))
       ∙ ap (λ t. record { manifests = map.empty; tags = t }) (ap (λ (r : RepoState). r.tags) h)

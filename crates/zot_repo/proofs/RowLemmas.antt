@@ -20,9 +20,9 @@ use Rattle.zot_model.specs.declared.row.RowReply.TheVariants as answers
 use Rattle.zot_model.specs.History.{Enters, Step, entry_of}
 use Rattle.zot_model.specs.Plain.{Goes, MayAnswer, Stay}
 use Rattle.zot_model.specs.Refusals.{no_memory}
-use Rattle.zot_repo.proofs.ReplyLemmas.{lacks}
+use Rattle.zot_table.proofs.ReplyLemmas.{lacks}
 use Rattle.zot_model.specs.State.{AreSame, Becomes, RepoState, RowState, fresh, repo_at}
-use Rattle.zot_repo.specs.Replies.{MayGive}
+use Rattle.zot_table.specs.Replies.{MayGive}
 use Rattle.zot_repo.specs.Table.{HasName, KeepsNames, Table, state_of, with_repo}
 
 module _ (table : Table) (name : List ℕ) (repo : RepoState) where

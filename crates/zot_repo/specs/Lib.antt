@@ -1,4 +1,3 @@
-pub mod Refusals
 pub mod Replies
 pub mod Repository
 pub mod Table

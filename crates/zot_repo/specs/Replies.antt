@@ -1,26 +1,19 @@
--- What the parts of a repository's answer say.
-use Rattle.std.specs.Prelude.{◌≡◌, ℕ, List, length, Option, Some, None, ◌⊎◌}
-use Rattle.std.specs.FinMap as map
+-- What the parts of a repository's answer say, where memory may run out.
+use Rattle.std.specs.Prelude.{◌≡◌, ◌⊎◌, ℕ, List, Option}
 use Rattle.zot_digest.specs.Digest.{IsSound}
-use Rattle.zot_model.specs.declared.call.Call.{Call}
-use Rattle.zot_model.specs.declared.code.Code.TheVariants.{BlobUploadUnknown, DigestInvalid}
-use Rattle.zot_model.specs.declared.reply.Reply.{Reply}
-use Rattle.zot_model.specs.declared.reply.Reply.TheVariants.{Blob, BlobMade, ManifestMade, Session}
-use Rattle.zot_model.specs.Manifests.{Found, with_tag}
+use Rattle.zot_manifests.specs.declared.checked.Checked.{Checked}
+use Rattle.zot_model.specs.Manifests.{Found}
 use Rattle.zot_model.specs.Outcomes.{with_blob}
-use Rattle.zot_model.specs.Plain.{IsPlain, LacksMemory}
 use Rattle.zot_model.specs.PlainBlobs.{found_or}
 use Rattle.zot_model.specs.PlainUploads.{with_sessions}
-use Rattle.zot_repo.specs.declared.found_manifest.FoundManifest.{FoundManifest}
-use Rattle.zot_manifests.specs.declared.checked.Checked.{Checked}
-use Rattle.zot_media.specs.References.{subject_digest}
 use Rattle.zot_model.specs.Refusals.{no_memory, refusal}
 use Rattle.zot_model.specs.State.{RepoState, Stored}
-use Rattle.zot_model.specs.Uploads.{OpenUpload, UploadTable, without}
-
--- the call may be answered so on a repository, without a storage fault
-abbrev pub MayGive : ℕ → RepoState → Call → Reply → RepoState → Type 0
-MayGive moment old call reply new = IsPlain moment old call reply new ⊎ LacksMemory moment old call reply new
+use Rattle.zot_model.specs.Uploads.{without}
+use Rattle.zot_model.specs.declared.code.Code.TheVariants.{DigestInvalid}
+use Rattle.zot_model.specs.declared.reply.Reply.{Reply}
+use Rattle.zot_model.specs.declared.reply.Reply.TheVariants.{Blob, BlobMade}
+use Rattle.zot_repo.specs.declared.found_manifest.FoundManifest.{FoundManifest}
+use Rattle.zot_table.specs.Replies.{made_reply, with_checked}
 
 -- the reply has the blob, or says that there is none, or that memory ran out
 abbrev pub GivesBlob : Option Stored → List ℕ → Reply → Type 0
@@ -33,16 +26,6 @@ TakesBlob moment old digest body reply new =
     ⊎ (IsSound digest body × (reply ≡ BlobMade digest) × (new ≡ with_blob moment old digest body))
     ⊎ ((reply ≡ no_memory) × (new ≡ old))
 
--- the reply to a GET of the upload found under an id, where there is one
-abbrev pub found_reply : ℕ → Option OpenUpload → Reply
-found_reply id None = refusal BlobUploadUnknown
-found_reply id (Some upload) = Session id (length upload.bytes) 204
-
--- the reply to a GET of the upload of an id; a text that is no id names none
-abbrev pub state_reply : Option ℕ → UploadTable → Reply
-state_reply None sessions = refusal BlobUploadUnknown
-state_reply (Some id) sessions = found_reply id (map.get sessions.uploads id)
-
 -- the bytes became a blob and the upload ended, or memory ran out
 abbrev pub EndsWith : ℕ → RepoState → ℕ → List ℕ → List ℕ → Reply → RepoState → Type 0
 EndsWith moment old id digest bytes reply new =
@@ -53,20 +36,6 @@ EndsWith moment old id digest bytes reply new =
 -- a manifest that was found, with its bytes
 abbrev pub found_manifest : FoundManifest → Found
 found_manifest found = record { digest = found.digest; media = found.media; bytes = found.bytes.now }
-
--- the repository with a manifest that was checked, whose bytes are a blob already
-abbrev pub with_checked : ℕ → RepoState → Checked → RepoState
-with_checked moment repo checked = record {
-  known = repo.known;
-  blobs = repo.blobs;
-  manifests = map.insert repo.manifests checked.digest (record { media = checked.media; arrived = moment });
-  tags = with_tag moment repo.tags checked.tag checked.digest;
-  sessions = repo.sessions;
-}
-
--- the reply to a manifest that was stored
-abbrev pub made_reply : Checked → Reply
-made_reply checked = ManifestMade checked.digest (subject_digest checked.reading.subject)
 
 -- the manifest was stored, or memory ran out
 abbrev pub StoresChecked : ℕ → RepoState → Checked → Reply → RepoState → Type 0

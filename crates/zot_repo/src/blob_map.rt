@@ -70,7 +70,7 @@ impl BlobMap {
 }
 
 impl Held for BlobMap {
-    ghost use Rattle.zot_repo.specs.Repository.{size_of};
+    ghost use Rattle.zot_table.specs.Repository.{size_of};
 
     ghost sizes = { λ blobs digest. size_of blobs digest };
 

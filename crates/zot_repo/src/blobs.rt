@@ -8,8 +8,9 @@ ghost use Rattle.zot_model.specs.declared.call.Call.TheVariants as calls;
 ghost use Rattle.zot_model.specs.declared.mount.Mount.{Mount};
 ghost use Rattle.zot_model.specs.declared.reply.Reply.TheVariants.{BlobHead};
 ghost use Rattle.zot_referrers.specs.Listing.{ListsSubjects};
-ghost use Rattle.zot_repo.specs.Replies.{GivesBlob, MayGive, TakesBlob};
-ghost use Rattle.zot_repo.specs.Repository.{rereads};
+ghost use Rattle.zot_repo.specs.Replies.{GivesBlob, TakesBlob};
+ghost use Rattle.zot_table.specs.Replies.{MayGive};
+ghost use Rattle.zot_table.specs.Repository.{rereads};
 
 use crate::repository::Repository;
 use crate::stored_blob::StoredBlob;

@@ -3,9 +3,11 @@ ghost use Rattle.std.specs.Prelude.{◌≡◌, ℕ, option_map};
 ghost use Rattle.zot_media.specs.declared.reference.Reference.TheVariants as by;
 ghost use Rattle.zot_model.specs.declared.call.Call.TheVariants as calls;
 ghost use Rattle.zot_model.specs.Manifests.{manifest_of};
-ghost use Rattle.zot_repo.specs.Refusals.{put_refusal};
-ghost use Rattle.zot_repo.specs.Replies.{MayGive, StoresChecked, StoresManifest, found_manifest};
-ghost use Rattle.zot_repo.specs.Repository.{IsHeld, IsOf};
+ghost use Rattle.zot_table.specs.Refusals.{put_refusal};
+ghost use Rattle.zot_repo.specs.Replies.{StoresChecked, StoresManifest, found_manifest};
+ghost use Rattle.zot_table.specs.Replies.{MayGive};
+ghost use Rattle.zot_repo.specs.Repository.{IsHeld};
+ghost use Rattle.zot_table.specs.Repository.{IsOf};
 
 use crate::found_manifest::FoundManifest;
 use crate::repository::Repository;

@@ -1,7 +1,7 @@
 //! One repository.
 ghost use Rattle.std.specs.Prelude.{◌≡◌, ◌≢◌, false, true};
 ghost use Rattle.zot_model.specs.State.{fresh};
-ghost use Rattle.zot_repo.specs.Replies.{MayGive};
+ghost use Rattle.zot_table.specs.Replies.{MayGive};
 
 use crate::blob_map::BlobMap;
 use std::alloc::Global;
@@ -24,13 +24,14 @@ pub struct Repository {
 impl Model for Repository {
     ghost use Rattle.zot_model.specs.State.{RepoState, repo_code};
     ghost use Rattle.zot_referrers.specs.Listing.{ListsSubjects};
-    ghost use Rattle.zot_repo.specs.Repository.{AreRead, repo_of};
+    ghost use Rattle.zot_repo.specs.Repository.{AreRead};
+    ghost use Rattle.zot_table.specs.Repository.{plain_of};
 
     ghost Value = { RepoState };
 
     ghost coded = { repo_code };
 
-    ghost view = { λ r. repo_of r.known r.blobs r.manifests r.sessions };
+    ghost view = { λ r. plain_of r.known r.blobs r.manifests r.sessions };
 
     ghost invariant = { λ r. AreRead r.manifests.manifests r.blobs × ListsSubjects r.manifests.manifests r.subjects.index.sets };
 }

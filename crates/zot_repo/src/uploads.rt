@@ -3,8 +3,9 @@ ghost use Rattle.std.specs.Prelude.{◌≡◌, ℕ, List, Option, None, Some};
 ghost use Rattle.std.specs.FinMap as map;
 ghost use Rattle.zot_model.specs.declared.call.Call.TheVariants as calls;
 ghost use Rattle.zot_model.specs.declared.mount.Mount.{Mount};
-ghost use Rattle.zot_repo.specs.Refusals.{new_refusal, upload_refusal};
-ghost use Rattle.zot_repo.specs.Replies.{EndsWith, MayGive, state_reply};
+ghost use Rattle.zot_table.specs.Refusals.{new_refusal, upload_refusal};
+ghost use Rattle.zot_repo.specs.Replies.{EndsWith};
+ghost use Rattle.zot_table.specs.Replies.{MayGive, state_reply};
 
 use crate::repository::Repository;
 use std::alloc::Global;

@@ -5,9 +5,9 @@ use Rattle.zot_digest.specs.ByteMap.{ByteMap}
 use Rattle.zot_model.specs.Manifests.{is_needed}
 use Rattle.zot_model.specs.PlainBlobs.{without_blob}
 use Rattle.zot_model.specs.State.{RepoState, Stored}
-use Rattle.zot_repo.proofs.ManifestLemmas.{blob_deleted, blob_needed, blob_unknown}
+use Rattle.zot_table.proofs.ManifestReplyLemmas.{blob_deleted, blob_needed, blob_unknown}
 use Rattle.zot_repo.proofs.ReadLemmas.{not_needed, reads_without}
-use Rattle.zot_repo.specs.Repository.{repo_of}
+use Rattle.zot_table.specs.Repository.{plain_of}
 use Rattle.zot_repo.proofs.repository.Repository.delete_blob.Goals as goal
 
 none_copied : (o : Option (Bor Stored)) → is_some o ≡ false → option_copied o ≡ None
@@ -41,7 +41,7 @@ invariant_of-self c = (
 
 pub returns : goal.returns
 returns c = λ moment.
-    blob_deleted moment c.args.self.now (repo_of c.self.inside.known c.remove.new.self c.self.inside.manifests c.self.inside.sessions) c.args.digest.now _
+    blob_deleted moment c.args.self.now (plain_of c.self.inside.known c.remove.new.self c.self.inside.manifests c.self.inside.sessions) c.args.digest.now _
     (ap (λ (r : RepoState). is_some (map.get r.blobs c.args.digest.now)) (sym c.self.view_is) ∙ ap is_some (sym c.get.ensures) ∙ some_copied c.get.result ∙ c.is_none.ensures ∙ ap not c.if-is_none.false)
     (sym c.is_needed.ensures ∙ c.if-is_needed.false) refl
-    (ap (λ (b : ByteMap Stored). repo_of c.self.inside.known b c.self.inside.manifests c.self.inside.sessions) c.remove.ensures ∙ ap (λ (r : RepoState). without_blob r c.args.digest.now) c.self.view_is)
+    (ap (λ (b : ByteMap Stored). plain_of c.self.inside.known b c.self.inside.manifests c.self.inside.sessions) c.remove.ensures ∙ ap (λ (r : RepoState). without_blob r c.args.digest.now) c.self.view_is)

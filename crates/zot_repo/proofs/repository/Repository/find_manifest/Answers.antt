@@ -2,7 +2,7 @@ use Rattle.std.proofs.Common.{◌∙◌, Some, None, refl, sym, ap, ℕ, List}
 use Rattle.std.specs.FinMap as map
 use Rattle.zot_model.specs.Manifests.{manifest_of}
 use Rattle.zot_model.specs.State.{RepoState}
-use Rattle.zot_repo.proofs.ManifestLemmas.{named_at, unnamed}
+use Rattle.zot_table.proofs.ManifestReplyLemmas.{named_at, unnamed}
 use Rattle.zot_repo.proofs.repository.Repository.find_manifest.Goals as goal
 
 pub returns-in_default : goal.returns-in_default

@@ -2,10 +2,11 @@ use Rattle.std.proofs.Common.{ℕ, List, ◌++◌, Option, ap, sym, subst, ◌�
 use Rattle.std.specs.FinMap as map
 use Rattle.zot_model.specs.declared.call.Call.TheVariants as calls
 use Rattle.zot_model.specs.declared.call.Call.{Call}
-use Rattle.zot_repo.specs.Replies.{MayGive}
+use Rattle.zot_table.specs.Replies.{MayGive}
 use Rattle.zot_model.specs.State.{RepoState}
 use Rattle.zot_model.specs.Uploads.{bytes_of}
-use Rattle.zot_repo.proofs.ReplyLemmas.{finish_made, finish_refused, unnamed_finish}
+use Rattle.zot_repo.proofs.AnswerLemmas.{finish_ends}
+use Rattle.zot_table.proofs.ReplyLemmas.{finish_refused, unnamed_finish}
 use Rattle.zot_uploads.specs.Cases.{IsWhole, RefusesWhole}
 use Rattle.zot_repo.proofs.repository.Repository.finish.Goals as goal
 
@@ -19,7 +20,7 @@ returns-in-Ok c =
     let call = λ (id : Option ℕ) (body : List ℕ). calls.Finish id c.args.range c.args.digest.now body in
     let same = ap (λ (id : Option ℕ). call id piece) (sym c.in-Some.is) ∙ ap (call c.args.id) c.as_slice.ensures in
     subst (λ (q : Call). MayGive c.args.moment old q c.end_with.result c.end_with.new.self) same
-    (finish_made c.args.moment old c.end_with.new.self c.in-Some.id c.args.range c.args.digest.now piece c.new.result c.end_with.result
+    (finish_ends c.args.moment old c.end_with.new.self c.in-Some.id c.args.range c.args.digest.now piece c.new.result c.end_with.result
     (subst (λ (r : RepoState). IsWhole (map.get r.sessions.uploads c.in-Some.id) c.args.range piece c.args.digest.now) c.self.view_is c.in-Ok.ensures.right)
     (c.new.ensures ∙ c.in-Ok.ensures.bytes ∙ ap (λ (r : RepoState). bytes_of (map.get r.sessions.uploads c.in-Some.id) ++ piece) c.self.view_is)
     c.end_with.ensures)

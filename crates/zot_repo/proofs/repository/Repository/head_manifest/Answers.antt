@@ -1,7 +1,7 @@
 use Rattle.std.proofs.Common.{◌∙◌, length, sym, ap, ℕ, List}
 use Rattle.std.specs.Prelude.{option_map}
 use Rattle.zot_model.specs.declared.reply.Reply.TheVariants.{ManifestHead}
-use Rattle.zot_repo.proofs.ManifestLemmas.{head_known, head_unknown}
+use Rattle.zot_table.proofs.ManifestReplyLemmas.{head_known, head_unknown}
 use Rattle.zot_repo.specs.Replies.{found_manifest}
 use Rattle.zot_repo.proofs.repository.Repository.head_manifest.Goals as goal
 

@@ -4,8 +4,9 @@ use Rattle.zot_model.specs.PlainReferrers.{pushed_in}
 use Rattle.zot_model.specs.State.{RepoState}
 use Rattle.zot_model.specs.declared.reply.Reply.TheVariants.{Referrers}
 use Rattle.zot_referrers.specs.Listing.{all_pushed}
-use Rattle.zot_repo.proofs.SubjectLemmas.{pushed_same, referrers_given}
-use Rattle.zot_repo.specs.Repository.{size_of}
+use Rattle.zot_repo.proofs.ReferrerLemmas.{pushed_same}
+use Rattle.zot_table.proofs.ManifestReplyLemmas.{referrers_given}
+use Rattle.zot_table.specs.Repository.{size_of}
 use Rattle.zot_repo.proofs.repository.Repository.list_referrers.Goals as goal
 
 pub returns-in-Ok : goal.returns-in-Ok

@@ -3,7 +3,7 @@ use Rattle.zot_digest.specs.ByteMap.{ByteMap}
 use Rattle.zot_model.specs.Pages.{page}
 use Rattle.zot_model.specs.State.{RepoState, StoredTag}
 use Rattle.zot_model.specs.declared.reply.Reply.TheVariants.{Tags}
-use Rattle.zot_repo.proofs.ManifestLemmas.{list_known, list_unknown}
+use Rattle.zot_table.proofs.ManifestReplyLemmas.{list_known, list_unknown}
 use Rattle.zot_repo.proofs.repository.Repository.list_tags.Goals as goal
 
 pub returns-then-not-self : goal.returns-then-not-self

@@ -1,7 +1,7 @@
 use Rattle.std.proofs.Common.{ap, refl, false}
 use Rattle.zot_manifests.specs.Table.{Table}
 use Rattle.zot_repo.proofs.ReadLemmas.{fresh_is, reads_none}
-use Rattle.zot_repo.proofs.SubjectLemmas.{subjects_none}
+use Rattle.zot_table.proofs.SubjectLemmas.{subjects_none}
 use Rattle.zot_repo.proofs.repository.Repository.new.Goals as goal
 
 pub invariant_of-result : goal.invariant_of-result

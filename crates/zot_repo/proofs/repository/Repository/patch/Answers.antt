@@ -2,8 +2,9 @@ use Rattle.std.proofs.Common.{ℕ, List, Option, Some, ap, sym, ◌∙◌}
 use Rattle.zot_model.specs.declared.call.Call.TheVariants as calls
 use Rattle.zot_model.specs.declared.reply.Reply.TheVariants.{Session}
 use Rattle.zot_model.specs.Uploads.{UploadTable}
-use Rattle.zot_repo.proofs.ReplyLemmas.{at_call, patch_made, patch_refused, unnamed_patch}
-use Rattle.zot_repo.specs.Repository.{repo_of}
+use Rattle.zot_repo.proofs.AnswerLemmas.{at_call}
+use Rattle.zot_table.proofs.ReplyLemmas.{patch_made, patch_refused, unnamed_patch}
+use Rattle.zot_table.specs.Repository.{plain_of}
 use Rattle.zot_repo.proofs.repository.Repository.patch.Goals as goal
 use Rattle.zot_repo.proofs.repository.Repository.patch.Goals.{in-Ok, in-Err}
 
@@ -12,7 +13,7 @@ returns-in_default c = unnamed_patch c.args.self.now c.args.id c.args.range c.ar
 
 pub returns : goal.returns
 returns c moment =
-    let repo = λ (s : UploadTable). repo_of c.self.inside.known c.self.inside.blobs c.self.inside.manifests s in
+    let repo = λ (s : UploadTable). plain_of c.self.inside.known c.self.inside.blobs c.self.inside.manifests s in
     let same = ap (λ (id : Option ℕ). calls.Patch id c.args.range c.as_slice.result.now) (sym c.in-Some.is) ∙ ap (λ (body : List ℕ). calls.Patch c.args.id c.args.range body) c.as_slice.ensures in
     at_call moment c.args.self.now (repo c.self.inside.sessions) (repo c.append.new.self) (calls.Patch c.args.id c.args.range c.args.body.now) (calls.Patch (Some c.in-Some.id) c.args.range c.as_slice.result.now)
     c.match-append.result c.self.view_is same

@@ -6,7 +6,8 @@ use Rattle.zot_manifests.specs.Table.{Table}
 use Rattle.zot_model.specs.Outcomes.{with_blob}
 use Rattle.zot_model.specs.State.{RepoState, Stored}
 use Rattle.zot_repo.proofs.ReadLemmas.{not_reread, put_is, reads_put}
-use Rattle.zot_repo.specs.Repository.{AreRead, repo_of, rereads}
+use Rattle.zot_repo.specs.Repository.{AreRead}
+use Rattle.zot_table.specs.Repository.{plain_of, rereads}
 use Rattle.zot_repo.proofs.repository.Repository.put.Goals as goal
 
 on_err : {X E : Type 0} {P : Type 0} (r : Result X E) → P → OnErr r P
@@ -26,8 +27,8 @@ returns-in_err-set-clause-err c =
     let again = c.in_ok-reread.ensures.ok ∙ ap (rereads c.self.inside.manifests c.args.digest) c.as_slice.ensures in
     let same = not_reread c.self.inside.manifests c.self.inside.blobs c.args.digest c.args.bytes c.reread.new.manifests again c.self.invariant.0 c.in_err-set.ensures.absent in
     on_err c.from_residual-in_err-set.result
-    (ap (λ (b : ByteMap Stored). repo_of c.self.inside.known b c.reread.new.manifests c.self.inside.sessions) c.in_err-set.ensures.err
-    ∙ ap (λ (t : Table). repo_of c.self.inside.known c.self.inside.blobs t c.self.inside.sessions) same ∙ c.self.view_is)
+    (ap (λ (b : ByteMap Stored). plain_of c.self.inside.known b c.reread.new.manifests c.self.inside.sessions) c.in_err-set.ensures.err
+    ∙ ap (λ (t : Table). plain_of c.self.inside.known c.self.inside.blobs t c.self.inside.sessions) same ∙ c.self.view_is)
 
 pub invariant_of-self-2 : goal.invariant_of-self-2
 invariant_of-self-2 c =

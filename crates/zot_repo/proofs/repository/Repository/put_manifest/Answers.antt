@@ -1,8 +1,9 @@
 use Rattle.std.proofs.Common.{ℕ, List, Ok, Err, subst}
 use Rattle.zot_manifests.specs.Check.{Answers, check_of}
 use Rattle.zot_model.specs.State.{RepoState}
-use Rattle.zot_repo.proofs.ManifestLemmas.{checked_of, put_refused, put_stored}
-use Rattle.zot_repo.specs.Repository.{IsOf, size_of}
+use Rattle.zot_repo.proofs.AnswerLemmas.{put_ends}
+use Rattle.zot_table.proofs.ManifestReplyLemmas.{checked_of, put_refused}
+use Rattle.zot_table.specs.Repository.{IsOf, size_of}
 use Rattle.zot_repo.proofs.repository.Repository.put_manifest.Goals as goal
 
 pub store_manifest-requires : goal.store_manifest-requires
@@ -12,7 +13,7 @@ store_manifest-requires c =
 pub returns-in-Ok : goal.returns-in-Ok
 returns-in-Ok c =
     let checks = subst (λ (b : List ℕ). Answers (Ok c.in-Ok.checked) (check_of (size_of c.self.inside.blobs) c.args.reference.now c.args.media b)) c.as_slice.ensures c.in-Ok.ensures in
-    put_stored c.args.moment c.args.self.now c.store_manifest.new.self c.args.reference.now c.args.media c.args.body.now c.in-Ok.checked c.store_manifest.result
+    put_ends c.args.moment c.args.self.now c.store_manifest.new.self c.args.reference.now c.args.media c.args.body.now c.in-Ok.checked c.store_manifest.result
     (subst (λ (r : RepoState). Answers (Ok c.in-Ok.checked) (check_of (size_of r.blobs) c.args.reference.now c.args.media c.args.body.now)) c.self.view_is checks)
     (checked_of (size_of c.self.inside.blobs) c.args.reference.now c.args.media c.args.body.now c.in-Ok.checked checks).digest c.store_manifest.ensures
 

@@ -1,12 +1,13 @@
 use Rattle.std.proofs.Common.{refl, sym}
 use Rattle.zot_model.specs.declared.reply.Reply.TheVariants.{Base}
-use Rattle.zot_repo.proofs.ReplyLemmas.{at_call, base_given, get_answers, head_answers, state_answers}
+use Rattle.zot_repo.proofs.AnswerLemmas.{at_call, get_ends}
+use Rattle.zot_table.proofs.ReplyLemmas.{base_given, head_answers, state_answers}
 use Rattle.zot_repo.proofs.repository.Repository.reply_to.Goals as goal
 
 pub returns-in-GetBlob : goal.returns-in-GetBlob
 returns-in-GetBlob c =
     at_call c.args.moment c.args.self.now c.args.self.now c.args.self.now c.args.call.now _ c.get_blob.result refl (sym c.in-GetBlob.is)
-    (get_answers c.args.moment c.args.self.now c.in-GetBlob.digest c.get_blob.result c.get_blob.ensures)
+    (get_ends c.args.moment c.args.self.now c.in-GetBlob.digest c.get_blob.result c.get_blob.ensures)
 
 pub returns-in-HeadBlob : goal.returns-in-HeadBlob
 returns-in-HeadBlob c =

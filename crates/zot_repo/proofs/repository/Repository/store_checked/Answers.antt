@@ -2,11 +2,11 @@ use Rattle.std.proofs.Common.{inl, sym, ap, subst, ◌∙◌}
 use Rattle.zot_manifests.specs.Table.{Table}
 use Rattle.zot_model.specs.State.{RepoState}
 use Rattle.zot_model.specs.declared.reply.Reply.TheVariants.{ManifestMade}
-use Rattle.zot_repo.proofs.ManifestLemmas.{checked_is}
+use Rattle.zot_table.proofs.ManifestReplyLemmas.{checked_is}
 use Rattle.zot_repo.proofs.ReadLemmas.{reads_insert}
-use Rattle.zot_repo.proofs.SubjectLemmas.{subjects_put}
-use Rattle.zot_repo.specs.Replies.{with_checked}
-use Rattle.zot_repo.specs.Repository.{IsHeld, repo_of}
+use Rattle.zot_table.proofs.SubjectLemmas.{subjects_put}
+use Rattle.zot_table.specs.Replies.{with_checked}
+use Rattle.zot_repo.specs.Repository.{IsHeld}
 use Rattle.zot_repo.proofs.repository.Repository.store_checked.Goals as goal
 
 pub invariant_of-self-2 : goal.invariant_of-self-2

@@ -1,4 +1,4 @@
-use Rattle.zot_repo.proofs.ManifestLemmas.{held_of}
+use Rattle.zot_repo.proofs.ReadLemmas.{held_of}
 use Rattle.zot_repo.proofs.repository.Repository.store_manifest.Goals as goal
 
 pub store_checked-requires : goal.store_checked-requires

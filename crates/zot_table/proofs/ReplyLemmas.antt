@@ -1,26 +1,25 @@
 -- What the parts of a repository's answer say is what the plain registry says.
-use Rattle.std.proofs.Common.{◌≡◌, ◌≢◌, ◌⊎◌, ℕ, ◌+◌, Bool, true, false, List, ◌++◌, length, Option, Some, None, inl, inr, refl, sym, ap, ◌∙◌, subst, if◌then◌else◌}
-use Rattle.std.specs.Prelude.{⊤}
+use Rattle.std.proofs.Common.{◌≡◌, ◌≢◌, ◌⊎◌, ℕ, ◌+◌, Bool, true, false, List, ◌++◌, length, Option, Some, None, inl, inr, refl, sym, ap, ◌∙◌, if◌then◌else◌}
 use Rattle.std.specs.FinMap as map
 use Rattle.std.proofs.lemmas.Slice.Eq.{bytes_eq-Decides}
 use Rattle.zot_digest.specs.Digest.{IsSound, is_sound}
-use Rattle.zot_model.specs.declared.call.Call.{Call}
-use Rattle.zot_model.specs.declared.call.Call.TheVariants as calls
-use Rattle.zot_model.specs.declared.code.Code.TheVariants.{TooManyRequests}
-use Rattle.zot_model.specs.declared.mount.Mount.{Mount}
-use Rattle.zot_model.specs.declared.reply.Reply.{Reply}
-use Rattle.zot_model.specs.declared.reply.Reply.TheVariants.{Base, BlobHead, BlobMade, Session}
-use Rattle.zot_model.specs.declared.span.Span.{Span}
-use Rattle.zot_model.specs.Pieces.{goes_on, keeps_limit}
 use Rattle.zot_model.specs.Outcomes.{Outcome, stays, with_blob}
+use Rattle.zot_model.specs.Pieces.{goes_on, keeps_limit}
 use Rattle.zot_model.specs.Plain.{plain}
 use Rattle.zot_model.specs.PlainBlobs.{found_or}
 use Rattle.zot_model.specs.PlainUploads.{at_found, if_taken, plain_finish, plain_patch, plain_state, with_sessions, with_upload}
 use Rattle.zot_model.specs.Refusals.{no_memory, refusal}
 use Rattle.zot_model.specs.State.{RepoState}
 use Rattle.zot_model.specs.Uploads.{OpenUpload, bytes_of, is_full, with_piece, without}
-use Rattle.zot_repo.specs.Refusals.{new_refusal, upload_refusal}
-use Rattle.zot_repo.specs.Replies.{EndsWith, GivesBlob, MayGive, TakesBlob, found_reply, state_reply}
+use Rattle.zot_model.specs.declared.call.Call.{Call}
+use Rattle.zot_model.specs.declared.call.Call.TheVariants as calls
+use Rattle.zot_model.specs.declared.code.Code.TheVariants.{DigestInvalid, TooManyRequests}
+use Rattle.zot_model.specs.declared.mount.Mount.{Mount}
+use Rattle.zot_model.specs.declared.reply.Reply.{Reply}
+use Rattle.zot_model.specs.declared.reply.Reply.TheVariants.{Base, Blob, BlobHead, BlobMade, Session}
+use Rattle.zot_model.specs.declared.span.Span.{Span}
+use Rattle.zot_table.specs.Refusals.{new_refusal, upload_refusal}
+use Rattle.zot_table.specs.Replies.{MayGive, found_reply, state_reply}
 use Rattle.zot_uploads.specs.Cases.{IsTaken, IsWhole, Refuses, RefusesNew, RefusesWhole}
 use Rattle.zot_uploads.specs.declared.upload_error.UploadError.{UploadError}
 use Rattle.zot_uploads.specs.declared.upload_error.UploadError.TheVariants as errors
@@ -35,11 +34,6 @@ is_plain moment old new call reply outcome is reply_is repo_is = inl (record {
   reply_is = reply_is ∙ ap (λ (o : Outcome). o.reply) (sym is);
   repo_is = repo_is ∙ ap (λ (o : Outcome). o.repo) (sym is);
 })
-
--- the same repository and the same call, under other names
-pub at_call : (moment : ℕ) (old inside new : RepoState) (call other : Call) (reply : Reply) → inside ≡ old → other ≡ call → MayGive moment inside other reply new → MayGive moment old call reply new
-at_call moment old inside new call other reply is same h =
-    subst (λ (q : Call). MayGive moment old q reply new) same (subst (λ (r : RepoState). MayGive moment r other reply new) is h)
 
 chosen : (b : Bool) (x y : Outcome) → b ≡ false → (if b then x else y) ≡ y
 chosen true x y h = cc h
@@ -63,10 +57,9 @@ sound digest bytes h = (bytes_eq-Decides digest _).1 h
 -- ---- blobs
 
 -- a GET is answered as the plain registry does
-pub get_answers : (moment : ℕ) (repo : RepoState) (digest : List ℕ) (reply : Reply) → GivesBlob (map.get repo.blobs digest) digest reply → MayGive moment repo (calls.GetBlob digest) reply repo
+pub get_answers : (moment : ℕ) (repo : RepoState) (digest : List ℕ) (reply : Reply) → reply ≡ found_or (λ stored. Blob digest stored.bytes) (map.get repo.blobs digest) → MayGive moment repo (calls.GetBlob digest) reply repo
 unfolding plain
-get_answers moment repo digest reply (inl is) = inl (record { reply_is = is; repo_is = refl })
-get_answers moment repo digest reply (inr memory) = lacks moment repo repo (calls.GetBlob digest) reply memory refl
+get_answers moment repo digest reply is = inl (record { reply_is = is; repo_is = refl })
 
 -- a HEAD is answered as the plain registry does
 pub head_answers : (moment : ℕ) (repo : RepoState) (digest : List ℕ) (reply : Reply) → reply ≡ found_or (λ stored. BlobHead digest (length stored.bytes)) (map.get repo.blobs digest)
@@ -74,15 +67,15 @@ pub head_answers : (moment : ℕ) (repo : RepoState) (digest : List ℕ) (reply 
 unfolding plain
 head_answers moment repo digest reply is = inl (record { reply_is = is; repo_is = refl })
 
--- a POST of a blob with its digest is answered as the plain registry does
-pub post_answers : (moment : ℕ) (repo new : RepoState) (mount : Option Mount) (digest body : List ℕ) (reply : Reply) → TakesBlob moment repo digest body reply new
-    → MayGive moment repo (calls.Post mount (Some digest) body) reply new
-unfolding plain
-post_answers moment repo new mount digest body reply (inl h) =
-    is_plain moment repo new (calls.Post mount (Some digest) body) reply _ (chosen (is_sound digest body) _ _ (unsound digest body h.0)) h.1 h.2
-post_answers moment repo new mount digest body reply (inr (inl h)) =
-    is_plain moment repo new (calls.Post mount (Some digest) body) reply _ (taken (is_sound digest body) _ _ (sound digest body h.0)) h.1 h.2
-post_answers moment repo new mount digest body reply (inr (inr h)) = lacks moment repo new (calls.Post mount (Some digest) body) reply h.0 h.1
+-- a POST of a blob whose digest isn't its own, and of one that was stored
+module _ (moment : ℕ) (old : RepoState) (mount : Option Mount) (digest body : List ℕ) (reply : Reply) where
+  pub post_unsound : (¬ IsSound digest body) → reply ≡ refusal DigestInvalid → MayGive moment old (calls.Post mount (Some digest) body) reply old
+  unfolding plain
+  post_unsound isnt is = is_plain moment old old (calls.Post mount (Some digest) body) reply _ (chosen (is_sound digest body) _ _ (unsound digest body isnt)) is refl
+
+  pub post_made : (new : RepoState) → IsSound digest body → reply ≡ BlobMade digest → new ≡ with_blob moment old digest body → MayGive moment old (calls.Post mount (Some digest) body) reply new
+  unfolding plain
+  post_made new is_own is same = is_plain moment old new (calls.Post mount (Some digest) body) reply _ (taken (is_sound digest body) _ _ (sound digest body is_own)) is same
 
 -- ---- uploads
 
@@ -219,14 +212,14 @@ whole_outcome moment repo id None range digest piece h = absurd h
 whole_outcome moment repo id (Some upload) range digest piece h =
     taken_outcome repo id upload range piece _ h.0 h.1 ∙ taken (is_sound digest (upload.bytes ++ piece)) _ _ (sound digest (upload.bytes ++ piece) h.2)
 
--- PUT of an upload whose digest is right
-pub finish_made : (moment : ℕ) (repo new : RepoState) (id : ℕ) (range : Option Span) (digest piece bytes : List ℕ) (reply : Reply) → IsWhole (map.get repo.sessions.uploads id) range piece digest
-    → bytes ≡ bytes_of (map.get repo.sessions.uploads id) ++ piece → EndsWith moment repo id digest bytes reply new → MayGive moment repo (calls.Finish (Some id) range digest piece) reply new
+-- PUT of an upload whose digest is right, and whose bytes became a blob
+pub whole_made : (moment : ℕ) (old new : RepoState) (id : ℕ) (range : Option Span) (digest piece bytes : List ℕ) (reply : Reply) → IsWhole (map.get old.sessions.uploads id) range piece digest
+    → bytes ≡ bytes_of (map.get old.sessions.uploads id) ++ piece → reply ≡ BlobMade digest → new ≡ with_blob moment (with_sessions old (without old.sessions id)) digest bytes
+    → MayGive moment old (calls.Finish (Some id) range digest piece) reply new
 unfolding plain
-finish_made moment repo new id range digest piece bytes reply h are (inl made) =
-    is_plain moment repo new (calls.Finish (Some id) range digest piece) reply _ (whole_outcome moment repo id (map.get repo.sessions.uploads id) range digest piece h) made.0
-    (made.1 ∙ ap (with_blob moment (with_sessions repo (without repo.sessions id)) digest) are)
-finish_made moment repo new id range digest piece bytes reply h are (inr memory) = lacks moment repo new (calls.Finish (Some id) range digest piece) reply memory.0 memory.1
+whole_made moment old new id range digest piece bytes reply whole are is same =
+    is_plain moment old new (calls.Finish (Some id) range digest piece) reply _ (whole_outcome moment old id (map.get old.sessions.uploads id) range digest piece whole) is
+    (same ∙ ap (with_blob moment (with_sessions old (without old.sessions id)) digest) are)
 
 -- ---- the base route
 

@@ -1,11 +1,11 @@
 -- How a request on an upload or a manifest is refused.
 use Rattle.std.specs.Prelude.{ℕ}
+use Rattle.zot_manifests.specs.declared.check_error.CheckError.{CheckError}
+use Rattle.zot_manifests.specs.declared.check_error.CheckError.TheVariants as checks
+use Rattle.zot_model.specs.Refusals.{no_memory, refusal, refusal_with, upload_invalid}
 use Rattle.zot_model.specs.declared.code.Code.TheVariants.{BlobUploadUnknown, DigestInvalid, ManifestBlobUnknown, ManifestInvalid, SizeInvalid, TooManyRequests}
 use Rattle.zot_model.specs.declared.detail.Detail.TheVariants.{Missing}
 use Rattle.zot_model.specs.declared.reply.Reply.{Reply}
-use Rattle.zot_model.specs.Refusals.{no_memory, refusal, refusal_with, upload_invalid}
-use Rattle.zot_manifests.specs.declared.check_error.CheckError.{CheckError}
-use Rattle.zot_manifests.specs.declared.check_error.CheckError.TheVariants as checks
 use Rattle.zot_uploads.specs.declared.upload_error.UploadError.{UploadError}
 use Rattle.zot_uploads.specs.declared.upload_error.UploadError.TheVariants as errors
 

@@ -1,6 +1,6 @@
 -- What is answered to requests on manifests and tags is what the plain registry answers.
-use Rattle.std.proofs.Common.{◌≡◌, ◌⊎◌, inl, inr, ℕ, Bool, true, false, List, [], ◌∷◌, length, Option, Some, None, is_some, refl, sym, ap, subst, ◌∙◌, unwrap_or, if◌then◌else◌}
-use Rattle.std.specs.Prelude.{Result, Ok, Err, IsSomeAnd, option_and_then, option_map}
+use Rattle.std.proofs.Common.{◌≡◌, ◌⊎◌, inl, inr, ℕ, Bool, true, false, List, [], ◌∷◌, length, Option, Some, None, is_some, refl, sym, ap, ◌∙◌, unwrap_or, if◌then◌else◌}
+use Rattle.std.specs.Prelude.{Result, Ok, Err, option_and_then, option_map}
 use Rattle.std.specs.FinMap as map
 use Rattle.sha2.specs.Sha256.{sha256}
 use Rattle.zot_digest.specs.ByteMap.{ByteMap}
@@ -11,31 +11,32 @@ use Rattle.zot_manifests.specs.declared.check_error.CheckError.{CheckError}
 use Rattle.zot_manifests.specs.declared.check_error.CheckError.TheVariants as checks
 use Rattle.zot_manifests.specs.declared.checked.Checked.{Checked}
 use Rattle.zot_manifests.specs.declared.kept.Kept.{Kept}
-use Rattle.zot_maps.proofs.Maps.{byte_order, get_here}
-use Rattle.zot_media.specs.Manifest.{empty_reading, reading, stored_reading}
+use Rattle.zot_media.specs.Manifest.{empty_reading, reading}
 use Rattle.zot_media.specs.References.{needed}
+use Rattle.zot_media.specs.Referrers.{referrers_text}
 use Rattle.zot_media.specs.declared.media.Media.{Media}
 use Rattle.zot_media.specs.declared.reading.Reading.{Reading}
 use Rattle.zot_media.specs.declared.reference.Reference.{Reference}
 use Rattle.zot_media.specs.declared.reference.Reference.TheVariants as by
-use Rattle.zot_model.specs.declared.call.Call.TheVariants as calls
-use Rattle.zot_model.specs.declared.code.Code.TheVariants.{BlobUnknown, DigestInvalid, ManifestUnknown, NameUnknown}
-use Rattle.zot_model.specs.declared.methods.Methods.TheVariants as methods
-use Rattle.zot_model.specs.declared.reply.Reply.{Reply}
-use Rattle.zot_model.specs.declared.reply.Reply.TheVariants.{Deleted, Manifest, ManifestHead, Tags}
 use Rattle.zot_model.specs.Manifests.{Found, digest_named_by, first_missing, is_needed, manifest_at, manifest_of}
 use Rattle.zot_model.specs.Outcomes.{Outcome, stays, with_blob}
 use Rattle.zot_model.specs.Pages.{page}
 use Rattle.zot_model.specs.Plain.{plain}
 use Rattle.zot_model.specs.PlainBlobs.{delete_found, without_blob}
 use Rattle.zot_model.specs.PlainManifests.{get_found, head_found, is_other, plain_put, pulled, put_checked, put_read, without_tag}
+use Rattle.zot_model.specs.PlainReferrers.{plain_referrers, pushed_in}
 use Rattle.zot_model.specs.Refusals.{not_allowed, refusal}
 use Rattle.zot_model.specs.State.{RepoState, Stored, StoredManifest}
 use Rattle.zot_model.specs.Uploads.{UploadTable}
-use Rattle.zot_repo.proofs.ReplyLemmas.{is_plain, lacks}
-use Rattle.zot_repo.specs.Refusals.{put_refusal}
-use Rattle.zot_repo.specs.Replies.{MayGive, StoresManifest, made_reply, with_checked}
-use Rattle.zot_repo.specs.Repository.{IsHeld, IsOf, repo_of, size_of}
+use Rattle.zot_model.specs.declared.call.Call.TheVariants as calls
+use Rattle.zot_model.specs.declared.code.Code.TheVariants.{BlobUnknown, DigestInvalid, ManifestUnknown, NameUnknown}
+use Rattle.zot_model.specs.declared.methods.Methods.TheVariants as methods
+use Rattle.zot_model.specs.declared.reply.Reply.{Reply}
+use Rattle.zot_model.specs.declared.reply.Reply.TheVariants.{Deleted, Manifest, ManifestHead, Referrers, Tags}
+use Rattle.zot_table.proofs.ReplyLemmas.{is_plain, lacks}
+use Rattle.zot_table.specs.Refusals.{put_refusal}
+use Rattle.zot_table.specs.Replies.{MayGive, made_reply, with_checked}
+use Rattle.zot_table.specs.Repository.{IsOf, plain_of, size_of}
 
 taken : {A : Type 0} (b : Bool) (x y : A) → b ≡ true → (if b then x else y) ≡ x
 taken true x y h = refl
@@ -49,7 +50,7 @@ not_taken false x y h = refl
 
 module _ (known : Bool) (blobs : ByteMap Stored) (table : Table) (sessions : UploadTable) where
   abbrev whole : RepoState
-  whole = repo_of known blobs table sessions
+  whole = plain_of known blobs table sessions
 
   -- the manifest of a digest, by what the table and the blobs have there
   pub at_digest : (digest : List ℕ) (kept : Option Kept) (stored : Option Stored) → map.get table.manifests digest ≡ kept → map.get blobs digest ≡ stored
@@ -162,17 +163,14 @@ put_refused moment repo reference media body error reply (inr memory) is =
       error_is : IsShort (Err error) → error ≡ checks.NoMemory
       error_is h = ap the_error h
 
--- one that is stored, or for which memory ran out
-pub put_stored : (moment : ℕ) (repo new : RepoState) (reference : Reference) (media : Option Media) (body : List ℕ) (checked : Checked) (reply : Reply)
-    → (Ok checked ≡ check_of (size_of repo.blobs) reference media body) ⊎ IsShort (Ok checked) → checked.digest ≡ sha256 body → StoresManifest moment repo checked body reply new
+-- one that is stored
+pub put_made : (moment : ℕ) (repo new : RepoState) (reference : Reference) (media : Option Media) (body : List ℕ) (checked : Checked) (reply : Reply)
+    → (Ok checked ≡ check_of (size_of repo.blobs) reference media body) ⊎ IsShort (Ok checked) → reply ≡ made_reply checked → new ≡ with_checked moment (with_blob moment repo checked.digest body) checked
     → MayGive moment repo (calls.PutManifest reference media body) reply new
 unfolding plain
-put_stored moment repo new reference media body checked reply (inr memory) digest h = cc memory
-put_stored moment repo new reference media body checked reply (inl right) digest (inl h) =
-    is_plain moment repo new (calls.PutManifest reference media body) reply _ (put_outcome moment repo reference media body ∙ ap (outcome_of moment repo body) (sym right)) h.0 h.1
-put_stored moment repo new reference media body checked reply (inl right) digest (inr (memory, inl same)) = inr (record { reply_is = memory; leaves = inl same })
-put_stored moment repo new reference media body checked reply (inl right) digest (inr (memory, inr left)) =
-    inr (record { reply_is = memory; leaves = inr (inr (inl (left ∙ ap (λ d. with_blob moment repo d body) digest))) })
+put_made moment repo new reference media body checked reply (inl right) is same =
+    is_plain moment repo new (calls.PutManifest reference media body) reply _ (put_outcome moment repo reference media body ∙ ap (outcome_of moment repo body) (sym right)) is same
+put_made moment repo new reference media body checked reply (inr memory) is same = cc memory
 
 -- a checked manifest is that of its bytes
 needed_of : (reference : Reference) (media : Media) (body : List ℕ) (read : Reading) (missing : Option (List ℕ)) (checked : Checked) → reading media body ≡ Some read → Ok checked ≡ check_needed reference media body read missing → IsOf checked body
@@ -206,18 +204,11 @@ checked_of sizes reference None body checked (inl h) = cc h
 checked_of sizes reference (Some media) body checked (inl h) = read_of sizes reference media body (reading media body) checked refl h
 checked_of sizes reference media body checked (inr memory) = cc memory
 
--- its bytes are held where they are a blob
-pub held_of : (moment : ℕ) (repo new : RepoState) (checked : Checked) (body : List ℕ) → new ≡ with_blob moment repo checked.digest body → IsOf checked body → IsHeld checked new.blobs
-held_of moment repo new checked body is h =
-    subst (λ o. IsSomeAnd o (λ (s : Stored). checked.reading ≡ stored_reading checked.media s.bytes))
-    (sym (ap (λ (r : RepoState). map.get r.blobs checked.digest) is ∙ get_here byte_order repo.blobs checked.digest (record { bytes = body; arrived = moment })))
-    (sym (ap (λ o. unwrap_or o empty_reading) h.read))
-
 -- the table with a checked manifest stands for the repository with it
 pub checked_is : (known : Bool) (blobs : ByteMap Stored) (table new : Table) (sessions : UploadTable) (moment : ℕ) (checked : Checked) → new ≡ table_with moment table checked.digest checked.tag checked.media checked.reading
-    → repo_of known blobs new sessions ≡ with_checked moment (repo_of known blobs table sessions) checked
+    → plain_of known blobs new sessions ≡ with_checked moment (plain_of known blobs table sessions) checked
 checked_is known blobs table new sessions moment checked is =
-    ap (λ (t : Table). repo_of known blobs t sessions) is
+    ap (λ (t : Table). plain_of known blobs t sessions) is
     ∙ ap (λ (m : ByteMap StoredManifest). record { known = known; blobs = blobs; manifests = m; tags = (table_with moment table checked.digest checked.tag checked.media checked.reading).tags; sessions = sessions })
     (plain_insert table.manifests checked.digest (record { media = checked.media; arrived = moment; reading = checked.reading }))
 
@@ -239,19 +230,19 @@ contains_same table digest b h = ap is_some (get_plain table.manifests digest) �
 
 module _ (known : Bool) (blobs : ByteMap Stored) (table new : Table) (sessions : UploadTable) (moment : ℕ) (digest : List ℕ) (reply : Reply) where
   pub manifest_unknown : map.contains_key table.manifests digest ≡ false → reply ≡ refusal ManifestUnknown → new ≡ table
-      → MayGive moment (repo_of known blobs table sessions) (calls.DeleteManifest (by.Digest digest)) reply (repo_of known blobs new sessions)
+      → MayGive moment (plain_of known blobs table sessions) (calls.DeleteManifest (by.Digest digest)) reply (plain_of known blobs new sessions)
   unfolding plain
   manifest_unknown none is same =
-      is_plain moment (repo_of known blobs table sessions) (repo_of known blobs new sessions) (calls.DeleteManifest (by.Digest digest)) reply _
-      (not_taken (map.contains_key (plain_manifests table.manifests) digest) _ _ (contains_same table digest false none)) is (ap (λ (t : Table). repo_of known blobs t sessions) same)
+      is_plain moment (plain_of known blobs table sessions) (plain_of known blobs new sessions) (calls.DeleteManifest (by.Digest digest)) reply _
+      (not_taken (map.contains_key (plain_manifests table.manifests) digest) _ _ (contains_same table digest false none)) is (ap (λ (t : Table). plain_of known blobs t sessions) same)
 
   pub manifest_deleted : map.contains_key table.manifests digest ≡ true → reply ≡ Deleted → new ≡ table_without table digest
-      → MayGive moment (repo_of known blobs table sessions) (calls.DeleteManifest (by.Digest digest)) reply (repo_of known blobs new sessions)
+      → MayGive moment (plain_of known blobs table sessions) (calls.DeleteManifest (by.Digest digest)) reply (plain_of known blobs new sessions)
   unfolding plain
   manifest_deleted has is same =
-      is_plain moment (repo_of known blobs table sessions) (repo_of known blobs new sessions) (calls.DeleteManifest (by.Digest digest)) reply _
+      is_plain moment (plain_of known blobs table sessions) (plain_of known blobs new sessions) (calls.DeleteManifest (by.Digest digest)) reply _
       (taken (map.contains_key (plain_manifests table.manifests) digest) _ _ (contains_same table digest true has)) is
-      (ap (λ (t : Table). repo_of known blobs t sessions) same
+      (ap (λ (t : Table). plain_of known blobs t sessions) same
       ∙ ap (λ (m : ByteMap StoredManifest). record { known = known; blobs = blobs; manifests = m; tags = (table_without table digest).tags; sessions = sessions }) (plain_remove table.manifests digest))
 
 pub blob_unknown : (moment : ℕ) (repo : RepoState) (digest : List ℕ) (reply : Reply) → map.get repo.blobs digest ≡ None → reply ≡ refusal BlobUnknown → MayGive moment repo (calls.DeleteBlob digest) reply repo
@@ -283,3 +274,11 @@ list_unknown moment repo n last reply none is = is_plain moment repo repo (calls
 pub list_known : (moment : ℕ) (repo : RepoState) (n : Option ℕ) (last : Option (List ℕ)) (reply : Reply) → repo.known ≡ true → reply ≡ Tags (page repo.tags n last).tags (page repo.tags n last).next (unwrap_or n 0) → MayGive moment repo (calls.Tags n last) reply repo
 unfolding plain
 list_known moment repo n last reply has is = is_plain moment repo repo (calls.Tags n last) reply _ (taken repo.known _ _ has) is refl
+
+-- ---- the list of referrers
+
+-- the list of referrers is given
+pub referrers_given : (moment : ℕ) (repo : RepoState) (digest : List ℕ) (filter : Option (List ℕ)) (reply : Reply) → reply ≡ Referrers (referrers_text (pushed_in repo) digest filter) (is_some filter)
+    → MayGive moment repo (calls.Referrers digest filter) reply repo
+unfolding plain
+referrers_given moment repo digest filter reply is = is_plain moment repo repo (calls.Referrers digest filter) reply (plain_referrers repo digest filter) refl is refl
