@@ -8,7 +8,6 @@ mod closing;
 mod laws;
 mod listing;
 mod opening;
-mod room;
 mod rows;
 mod rows_open_error;
 mod unopened_rows;
