@@ -10,7 +10,7 @@ pub returns-clause-turn : goal.returns-clause-turn
 returns-clause-turn g c =
     written_turn (λ (old new : RepoTable). Resumes c.args.stage c.args.answered c.args.moment c.args.name.now old (g.S.Store.objects c.args.part.now) (g.S.Store.faults c.args.part.now) c.resume.result new (g.S.Store.objects c.resume.new.part) (g.S.Store.faults c.resume.new.part))
     c.self.inside.tree.entries (c.get_mut.follows.lender c.resume.new.repo).entries c.args.self.now c.args.name.now c.in-Some.repository.now c.resume.new.repo c.self.view_is c.in-Some.ensures.value (c.get_mut.follows.holds c.resume.new.repo).3
-    ((record { answer = c.resume.ensures.answer; stands = c.resume.ensures.stands; beside = c.resume.ensures.beside; faults = c.resume.ensures.faults; fits = c.resume.ensures.fits; falls = c.resume.ensures.falls }))
+    c.resume.ensures
 
 pub returns-clause-sets : goal.returns-clause-sets
 returns-clause-sets g c = written_sets c.self.inside.tree.entries (c.get_mut.follows.lender c.resume.new.repo).entries c.args.self.now c.args.name.now c.in-Some.repository.now c.resume.new.repo c.self.view_is c.in-Some.ensures.value (c.get_mut.follows.holds c.resume.new.repo).3

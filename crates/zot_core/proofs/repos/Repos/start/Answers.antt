@@ -10,7 +10,7 @@ pub returns-clause-turn : goal.returns-clause-turn
 returns-clause-turn g c =
     written_turn (λ (old new : RepoTable). Starts c.args.call.now c.args.moment c.args.name.now old (g.S.Store.objects c.args.part.now) (g.S.Store.faults c.args.part.now) c.start.result new (g.S.Store.objects c.start.new.part) (g.S.Store.faults c.start.new.part))
     c.self.inside.tree.entries (c.get_mut.follows.lender c.start.new.repo).entries c.args.self.now c.args.name.now c.in-Some.repository.now c.start.new.repo c.self.view_is c.in-Some.ensures.value (c.get_mut.follows.holds c.start.new.repo).3
-    ((record { answer = c.start.ensures.answer; stands = c.start.ensures.stands; beside = c.start.ensures.beside; faults = c.start.ensures.faults; fits = c.start.ensures.fits; mount = c.start.ensures.mount }))
+    c.start.ensures
 
 pub returns-clause-sets : goal.returns-clause-sets
 returns-clause-sets g c = written_sets c.self.inside.tree.entries (c.get_mut.follows.lender c.start.new.repo).entries c.args.self.now c.args.name.now c.in-Some.repository.now c.start.new.repo c.self.view_is c.in-Some.ensures.value (c.get_mut.follows.holds c.start.new.repo).3

@@ -2,7 +2,7 @@ use Rattle.zot_model.specs.declared.call.Call.TheVariants as calls
 use Rattle.zot_model.specs.declared.reply.Reply.TheVariants as answers
 use Rattle.zot_row.proofs.StartLemmas.{base_quiet, quiet_as, starts_as}
 use Rattle.zot_row.specs.declared.turn.Turn.TheVariants as turns
-use Rattle.zot_row.proofs.starting.begin.Goals as goal
+use Rattle.zot_row.proofs.starting.start.Goals as goal
 
 pub returns-in-GetBlob : goal.returns-in-GetBlob
 returns-in-GetBlob g c =

@@ -1,7 +1,7 @@
 use Rattle.zot_row.proofs.ResumeLemmas.{resumes_at}
 use Rattle.zot_row.specs.declared.stage.Stage.TheVariants as stages
 use Rattle.zot_row.specs.declared.turn.Turn.TheVariants as turns
-use Rattle.zot_row.proofs.resuming.go_on.Goals as goal
+use Rattle.zot_row.proofs.resuming.resume.Goals as goal
 
 pub returns-in-Blob : goal.returns-in-Blob
 returns-in-Blob g c =
