@@ -7,7 +7,6 @@ mod answering;
 mod closing;
 mod listing;
 mod opening;
-mod room;
 mod rows;
 mod rows_open_error;
 mod unopened_rows;
