@@ -8,13 +8,18 @@ mod answers;
 mod host;
 mod host_error;
 mod memory_host;
+mod parts;
 mod reading;
+mod room;
+mod scratch;
 mod system_host;
 mod unconfigured;
 
 pub use crate::host::Host;
 pub use crate::host_error::{HostError, HostResult};
 pub use crate::memory_host::MemoryHost;
+pub use crate::parts::{keep_parts, take_parts};
 pub use crate::reading::configuration;
+pub use crate::scratch::{scratch_part, scratch_path};
 pub use crate::system_host::SystemHost;
 pub use crate::unconfigured::Unconfigured;
