@@ -1,7 +1,8 @@
-//! The host: what the program takes from the system beside its streams. It gives files and clocks.
+//! The host: what the program takes from the system beside its streams. It gives files, parts of the storage, upstreams, clocks and gates, and is given the parts back.
 //!
 //! `configuration(alloc, &mut host, "zot.json")` is the configuration that this file of a host has, or the cause why there is none.
-//! `SystemHost` is the system; `MemoryHost` has its files in memory, and tells them.
+//! `take_parts(alloc, &mut host, root, members)` takes the parts of a cluster's storage, and `keep_parts(&mut host, parts)` gives them back.
+//! `SystemHost` is the system; `MemoryHost` has its files and parts in memory, and tells them.
 #![tactic(auto)]
 
 mod answers;
