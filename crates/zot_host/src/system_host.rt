@@ -8,7 +8,7 @@ use std::alloc::Global;
 use std::fs::{self, File, Files};
 use std::rt;
 use zot_config::Config;
-use zot_folder::{Disk, FolderStore};
+use zot_folder::{Disk, FolderStore, Tree};
 use zot_outside::{OpenGate, SystemClock};
 use zot_pool::MemoryUpstream;
 
@@ -29,7 +29,10 @@ impl<R> SystemHost<R> {
     }
 }
 
-impl<R: Files<File = File> + AllocGlobal + rt::Clock + Copy> Host for SystemHost<R> {
+impl<R: Files<File = File> + AllocGlobal + rt::Clock + Copy> Host for SystemHost<R>
+where
+    Disk<R>: Tree,
+{
     ghost use Rattle.std.specs.Prelude.{None, ⊤};
 
     type S = FolderStore<Disk<R>>;
@@ -62,7 +65,8 @@ impl<R: Files<File = File> + AllocGlobal + rt::Clock + Copy> Host for SystemHost
     }
 
     fn part(&mut self, alloc: Global, root: &str) -> HostResult<FolderStore<Disk<R>>> {
-        Ok(FolderStore::new(self.rt, alloc, root)?)
+        let folder = Disk::new(self.rt, alloc, root)?;
+        Ok(FolderStore::over(folder, alloc))
     }
 
     // The part's objects stay in its folder.

@@ -36,10 +36,10 @@ loop-part-preserved g c =
       c.keep.ensures.room (length left) (subst (g.H.Host.room c.loop-part.host) more inv.2),
       subst (λ n. UsesRoom (g.H.Host.room c.args.host.now) n (g.H.Host.room c.keep.new.self)) (sym (length-append c.loop-part.yielded (c.in-Some.part ∷ [])))
           (uses_both (g.H.Host.room c.args.host.now) (g.H.Host.room c.loop-part.host) (g.H.Host.room c.keep.new.self) (length c.loop-part.yielded) 1 inv.3 c.keep.ensures.room),
-      c.keep.ensures.faults ∙ inv.4,
-      c.keep.ensures.files ∙ inv.5,
-      c.keep.ensures.parts ∙ inv.6,
-      c.keep.ensures.moment ∙ inv.7,
+      ◌∙◌ {a = g.H.Host.faults c.keep.new.self} c.keep.ensures.faults inv.4,
+      ◌∙◌ {a = g.H.Host.files c.keep.new.self} c.keep.ensures.files inv.5,
+      ◌∙◌ {a = g.H.Host.parts c.keep.new.self} c.keep.ensures.parts inv.6,
+      ◌∙◌ {a = g.H.Host.moment c.keep.new.self} c.keep.ensures.moment inv.7,
     )
 
 pub returns-clause-kept : goal.returns-clause-kept
