@@ -17,8 +17,10 @@ use Rattle.zot_contents.specs.declared.shard.DigestShard.{DigestShard}
 use Rattle.zot_pool.specs.Pools.{holds, objects_of, BothHold, HasPoolCause, OnFailed, RoseAt, refusal}
 use Rattle.zot_row.specs.Turns.{given}
 use Rattle.zot_core.proofs.RowLemmas.{under_digest}
+use Rattle.zot_core.proofs.SeatLemmas.{enters_none}
 use Rattle.zot_core.proofs.TakingLemmas.{pool_takes}
 use Rattle.zot_core.specs.Rows.{TakesRow, under}
+use Rattle.zot_core.specs.Seats.{EntersPool}
 use Rattle.zot_core.specs.Shards.{AnswersAsked, Asked, KeepsOtherNames, is_for}
 
 -- ---- what is held, where it is told
@@ -134,6 +136,7 @@ pub asked_none : {S : Type 0} {G : Ghosts S} (name : List ℕ) (shards : List (D
 asked_none name shards failed asked = record {
   answer = both_itself (holds (objects_of shards)) (AnswersAsked asked replies.NoMemory) (answers_none asked);
   others = both_itself (holds (objects_of shards)) (KeepsOtherNames name) (λ held digest other of is apart. refl);
+  entries = both_itself (holds (objects_of shards)) (EntersPool name) (enters_none name);
   counts = refl;
   rose = λ is. cc is;
   later = omega arith;

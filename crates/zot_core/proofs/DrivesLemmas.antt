@@ -17,8 +17,10 @@ use Rattle.zot_pool.specs.Pools.{faults_of, holds, objects_of}
 use Rattle.zot_row.specs.Turns.{Counts}
 use Rattle.zot_core.proofs.AskLemmas.{both_itself, both_then, if_some_at, if_some_by, rose_since, some_and_at}
 use Rattle.zot_core.proofs.DriveLemmas.{led_on}
+use Rattle.zot_core.proofs.SeatLemmas.{enters_none, enters_then}
 use Rattle.zot_core.specs.RowGoing.{BeginsRow, FitsNext, GoesOnRow, HasCause, HasCauseAfter, IsForCall, IsOnOwn, IsOwn, KeepsBeside, OnDone, OnName, Rests, pending_of}
 use Rattle.zot_core.specs.Rows.{AgreesRow, NoneFresh}
+use Rattle.zot_core.specs.Seats.{EntersPool}
 use Rattle.zot_core.specs.Shards.{AnswersAsked, Asked, Drives, HasCauseSoFar, IsCounted, IsTaken, KeepsOtherNames, Led}
 use Rattle.zot_core.specs.declared.row_config.RowConfig.{RowConfig}
 use Rattle.zot_core.specs.declared.row_core.RowCore.{RowCore}
@@ -81,6 +83,9 @@ taken_none (Ask request) held = tt
 others_itself : (call : RowCall) (held : Holders) → OnName call (λ name. KeepsOtherNames name held held)
 others_itself (Ask request) held = if_some_by request.name (λ name. KeepsOtherNames name held held) (λ name _ digest other of is apart. refl)
 
+entries_itself : (call : RowCall) (held : Holders) → OnName call (λ name. EntersPool name held held)
+entries_itself (Ask request) held = if_some_by request.name (λ name. EntersPool name held held) (λ name _. enters_none name held)
+
 module _ {S : Type 0} {G : Ghosts S} (old : RowCore S G) (failed : ℕ) (before : List (DigestShard S G)) (moment : ℕ) where
   pub begun_drives : (call : RowCall) (next : RowNext) (new : RowCore S G) → BeginsRow (IsOwn old.config old.row) call moment old.repos (G.faults old.part) next new.waiting new.repos (G.faults new.part) → OnName call (λ name. Rests next name moment new.waiting)
       → FitsNext call next new.waiting → OnName call (λ name. KeepsBeside (G.objects old.part) name (G.objects new.part)) → OnDone next (NoneFresh None new.repos) → HasCause next (G.faults old.part) (G.faults new.part) → new.row ≡ old.row → new.config ≡ old.config
@@ -91,6 +96,7 @@ module _ {S : Type 0} {G : Ghosts S} (old : RowCore S G) (failed : ℕ) (before 
         → Led (IsOwn old.config old.row) call moment old.repos held (G.faults old.part + failed) next new.waiting new.repos behind (G.faults new.part + failed))
         (λ held agrees. record { taken = None; is_taken = taken_none call held; goes = begins held failed agrees; first = inl refl });
     others = both_itself (holds (objects_of before)) (λ held behind. OnName call (λ name. KeepsOtherNames name held behind)) (λ held. others_itself call held);
+    entries = both_itself (holds (objects_of before)) (λ held behind. OnName call (λ name. EntersPool name held behind)) (λ held. entries_itself call held);
     rests = rests;
     fits = fits;
     beside = beside;
@@ -136,6 +142,10 @@ module _ {S : Type 0} {G : Ghosts S} (old : RowCore S G) (failed : ℕ) (before 
           (λ held behind. OnName (Ask request) (λ name. KeepsOtherNames name held behind)) (λ held between behind h k.
           if_some_by request.name (λ name. KeepsOtherNames name held behind) (λ name on digest other of is_other apart. k digest other of is_other (λ e. apart (e ∙ name_same was.name name (sym named ∙ on)))
           ∙ if_some_at request.name (λ n. KeepsOtherNames n held between) name on h digest other of is_other apart)) d.others a.others;
+      entries = both_then (holds (objects_of before)) (holds (objects_of since)) (holds (objects_of after)) (λ held behind. OnName (Ask request) (λ name. EntersPool name held behind)) (EntersPool was.name)
+          (λ held behind. OnName (Ask request) (λ name. EntersPool name held behind)) (λ held between behind h k.
+          if_some_by request.name (λ name. EntersPool name held behind) (λ name on. enters_then name held between behind (if_some_at request.name (λ n. EntersPool n held between) name on h)
+          (subst (λ (n : List ℕ). EntersPool n between behind) (name_same was.name name (sym named ∙ on)) k))) d.entries a.entries;
       rests = if_some_by request.name (λ name. Rests next name moment new.waiting) (λ name on. subst (λ (n : List ℕ). Rests next n moment new.waiting) (name_same was.name name (sym named ∙ on))
           (subst (λ m. Rests next was.name m new.waiting) at_moment (if_some_at mid.waiting (λ (w : Waiting). Rests next w.name w.moment new.waiting) was is rests)));
       fits = if_some_at mid.waiting (λ (w : Waiting). (call : RowCall) → IsForCall call w → FitsNext call next new.waiting) was is fits (Ask request) is_for;

@@ -3,6 +3,7 @@ pub mod RowStepLemmas
 pub mod StandLemmas
 pub mod TakingLemmas
 pub mod RowTurnLemmas
+pub mod SeatLemmas
 pub mod AskLemmas
 pub mod DriveLemmas
 pub mod DrivesLemmas

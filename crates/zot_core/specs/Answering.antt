@@ -3,6 +3,7 @@ use Rattle.std.specs.Prelude.{◌≡◌, ℕ, ◌+◌, ◌≤◌, None, List, su
 use Rattle.zot_contents.specs.declared.shard.DigestShard.{DigestShard}
 use Rattle.zot_core.specs.RowGoing.{IsOwn, KeepsBeside, OnName}
 use Rattle.zot_core.specs.Rows.{AgreesRow, NoneFresh}
+use Rattle.zot_core.specs.Seats.{EntersPool}
 use Rattle.zot_core.specs.Shards.{HasAnswerCause, IsCounted, IsUnfailed, KeepsOtherNames, StepsRow}
 use Rattle.zot_core.specs.declared.shard.RepoShard.{RepoShard}
 use Rattle.zot_model.specs.Fits.{IsFitting}
@@ -16,6 +17,7 @@ pub record AnswersCall {S : Type 0} {G : Ghosts S} (old : RepoShard S G) (before
   pub steps : BothHold (holds (objects_of before)) (holds (objects_of after)) (λ held behind. AgreesRow (IsOwn old.core.config old.core.row) old.core.repos held
       → StepsRow (IsOwn old.core.config old.core.row) old.core.repos held (G.faults old.core.part + old.failed) call moment answer new.core.repos behind (G.faults new.core.part + new.failed))
   pub others : BothHold (holds (objects_of before)) (holds (objects_of after)) (λ held behind. OnName call (λ name. KeepsOtherNames name held behind))
+  pub entries : BothHold (holds (objects_of before)) (holds (objects_of after)) (λ held behind. OnName call (λ name. EntersPool name held behind))
   pub fault : HasAnswerCause answer (G.faults old.core.part) (G.faults new.core.part) (sum (faults_of before)) (sum (faults_of after))
   pub unfailed : BothHold (holds (objects_of before)) (holds (objects_of after)) (λ held behind. AgreesRow (IsOwn old.core.config old.core.row) old.core.repos held → IsUnfailed answer → new.failed ≡ old.failed)
   pub later : sum (faults_of before) ≤ sum (faults_of after)

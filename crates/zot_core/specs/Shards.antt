@@ -24,6 +24,7 @@ use Rattle.zot_pool.specs.Pools.{AreDeduped, AreTightPool, BothHold, faults_of, 
 use Rattle.zot_row.specs.Turns.{Counts, given}
 use Rattle.zot_core.specs.RowGoing.{BeginsRow, FitsNext, GoesRow, HasCause, IsOwn, KeepsBeside, MountsNext, OnDone, OnName, Rests, pending_of}
 use Rattle.zot_core.specs.Rows.{AgreesRow, NoneFresh, Tables, TakesRow, state_of, under}
+use Rattle.zot_core.specs.Seats.{EntersPool}
 use Rattle.zot_core.specs.declared.row_core.RowCore.{RowCore}
 use Rattle.zot_core.specs.declared.row_next.RowNext.{RowNext}
 use Rattle.zot_core.specs.declared.row_next.RowNext.TheVariants as nexts
@@ -89,6 +90,7 @@ is_for name (pool.Detach own digest) = bytes_eq own name
 pub record Asked {S : Type 0} {G : Ghosts S} (name : List ℕ) (old : List (DigestShard S G)) (failed : ℕ) (asked : PoolCall) (answered : PoolReply) (new : List (DigestShard S G)) (fails : ℕ) : Type 0 where
   pub answer : BothHold (holds (objects_of old)) (holds (objects_of new)) (AnswersAsked asked answered)
   pub others : BothHold (holds (objects_of old)) (holds (objects_of new)) (KeepsOtherNames name)
+  pub entries : BothHold (holds (objects_of old)) (holds (objects_of new)) (EntersPool name)
   pub counts : Counts answered failed fails
   pub rose : answered ≡ replies.Failed → Rose (sum (faults_of old)) (sum (faults_of new))
   pub later : sum (faults_of old) ≤ sum (faults_of new)
@@ -133,6 +135,7 @@ pub record Drives {S : Type 0} {G : Ghosts S} (old : RowCore S G) (failed : ℕ)
   pub answer : BothHold (holds (objects_of before)) (holds (objects_of after))
       (λ held behind. AgreesRow (IsOwn old.config old.row) old.repos held → Led (IsOwn old.config old.row) call moment old.repos held (G.faults old.part + failed) next new.waiting new.repos behind (G.faults new.part + fails))
   pub others : BothHold (holds (objects_of before)) (holds (objects_of after)) (λ held behind. OnName call (λ name. KeepsOtherNames name held behind))
+  pub entries : BothHold (holds (objects_of before)) (holds (objects_of after)) (λ held behind. OnName call (λ name. EntersPool name held behind))
   pub rests : OnName call (λ name. Rests next name moment new.waiting)
   pub fits : FitsNext call next new.waiting
   pub beside : OnName call (λ name. KeepsBeside (G.objects old.part) name (G.objects new.part))

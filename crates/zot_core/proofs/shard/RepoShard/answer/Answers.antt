@@ -20,6 +20,7 @@ returns g c =
           (λ (held behind : Holders). AgreesRow (IsOwn c.args.self.now.core.config c.args.self.now.core.row) c.args.self.now.core.repos held → StepsRow (IsOwn c.args.self.now.core.config c.args.self.now.core.row) c.args.self.now.core.repos held (g.S.Store.faults c.args.self.now.core.part + c.args.self.now.failed) (Ask c.args.request.now) c.args.moment c.drive.result c.drive.new.core.repos behind (g.S.Store.faults c.drive.new.core.part + c.drive.new.failed))
           (λ held behind led agrees. led_steps (IsOwn c.args.self.now.core.config c.args.self.now.core.row) (Ask c.args.request.now) c.args.moment c.args.self.now.core.repos held (g.S.Store.faults c.args.self.now.core.part + c.args.self.now.failed) c.drive.result c.drive.new.core.waiting c.drive.new.core.repos behind (g.S.Store.faults c.drive.new.core.part + c.drive.new.failed) (led agrees)) c.drive.ensures.drives.answer;
       others = drives.others;
+      entries = drives.entries;
       fault = drives.cause;
       unfailed = both_each (holds (objects_of c.args.pool.now.shards.items)) (holds (objects_of c.drive.new.pool.shards.items))
           (λ (held behind : Holders). AgreesRow (IsOwn c.args.self.now.core.config c.args.self.now.core.row) c.args.self.now.core.repos held → Led (IsOwn c.args.self.now.core.config c.args.self.now.core.row) (Ask c.args.request.now) c.args.moment c.args.self.now.core.repos held (g.S.Store.faults c.args.self.now.core.part + c.args.self.now.failed) (nexts.Done c.drive.result) c.drive.new.core.waiting c.drive.new.core.repos behind (g.S.Store.faults c.drive.new.core.part + c.drive.new.failed))
