@@ -29,6 +29,7 @@ impl<R> SystemHost<R> {
     }
 }
 
+// `Disk<R>` is a tree by the other bounds. The bound on it is written out since rattle gives callers no proof without it.
 impl<R: Files<File = File> + AllocGlobal + rt::Clock + Copy> Host for SystemHost<R>
 where
     Disk<R>: Tree,
