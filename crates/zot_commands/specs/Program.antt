@@ -6,7 +6,7 @@ use Rattle.std.specs.List.{concat, flat_map}
 use Rattle.std.specs.Str.{bytes_eq}
 use Rattle.std.specs.declared.io.ErrorKind.{ErrorKind}
 use Rattle.std.specs.declared.io.ErrorKind.TheVariants.{OutOfMemory}
-use Rattle.zot_model.specs.State.{RowState, empty_row}
+use Rattle.zot_rows.specs.Histories.{RowStates, empty_rows}
 use Rattle.zot_session.specs.declared.end.End.{End}
 use Rattle.zot_session.specs.declared.end.End.TheVariants as ends
 use Rattle.zot_session.specs.Ends.{EndsAs, HasFailed}
@@ -75,13 +75,14 @@ abbrev pub Notes : List ℕ → Option (List ℕ) → Option (List ℕ) → ℕ 
 Notes text before after faults_before faults_after =
     (Appends before text after × (faults_after ≡ faults_before)) ⊎ (WritesPart before text after × Rose faults_before faults_after)
 
--- a connection was served over an empty table, at the moment that a clock tells, and ended so; where nothing failed, the end is the one that its bytes give
--- A table in memory has no storage fault, so no reply says that the storage failed
+-- a connection was served over rows without a repository, at the moment that a clock tells, and ended so; where nothing failed, the end is the one that its bytes give
+-- Rows in memory have no storage fault, so no reply says that the storage failed
 pub record Pipes (told : Option ℕ) (end : End) (left_before left_after held_before held_after : Option (List ℕ)) : Type 0 where
-  pub table : RowState
-  pub served : Served (λ exchanges. Records told empty_row exchanges table) end left_before left_after held_before held_after
+  pub row_of : List ℕ → ℕ
+  pub table : RowStates
+  pub served : Served (λ exchanges. Records row_of told empty_rows exchanges table) end left_before left_after held_before held_after
   pub of_bytes : ¬ HasFailed end → IfSome left_before (λ bytes. EndsAs bytes end)
-  pub faults : table.faults ≡ 0
+  pub faults : (row : ℕ) → (table row).faults ≡ 0
 
 -- where these are the words of `pipe`, a connection was served, and the status and the note are those of its end
 abbrev pub RunsPipe : List (List ℕ) → Option ℕ → ℕ → Option (List ℕ) → Option (List ℕ) → Option (List ℕ) → Option (List ℕ) → (List ℕ → Type 0) → Type 0

@@ -10,16 +10,16 @@ ghost use Rattle.zot_outside.specs.Streams.{Appends};
 ghost use Rattle.zot_commands.specs.Program.{IsStatusOf, Notes, Pipes, RefusesUnread, RefusesWords, RunsPipe, is_waiting as is_waiting_of, is_waiting_word as is_waiting_word_of, line_of, pipe_words, exit_status as exit_status_of, words_line, words_status};
 ghost use Rattle.zot_commands.specs.Verify.{RefusesAll, RunsVerify};
 
+use crate::closing::serve_to_close;
+use crate::memory::memory_rows;
 use crate::notes::{note, note_end};
 use crate::plain::run_plain;
 use crate::status::Status;
-use crate::table::serve_table;
 use std::alloc::Global;
 use std::io;
 use std::io::ErrorKind;
 use zot_host::Host;
 use zot_outside::{Sink, Source};
-use zot_repo::RepoShard;
 use zot_session::End;
 
 /// Runs the command of the program's arguments, of which the first is its name. Arguments that couldn't be read are refused: with the status 8 where memory ran out, else with the status 2, since no command has words that aren't text.
@@ -108,7 +108,7 @@ fn after_name(args: &[String]) -> &[String]
     }
 }
 
-/// Runs the command of these words, if it may wait. `pipe` serves one connection from the input to the output, over an empty table in memory, at the moments of the host's clock. Other words are refused with the status 2: for them the host isn't asked, nothing is read, and nothing is written to the output.
+/// Runs the command of these words, if it may wait. `pipe` serves one connection from the input to the output, over rows in memory without a repository, at the moments of the host's clock. Other words are refused with the status 2: for them the host isn't asked, nothing is read, and nothing is written to the output.
 #[tactic(auto, unfolding(crate::specs::Program::words_line))]
 pub fn run_waiting<H: Host, C: Source, K: Sink, N: Sink>(
     alloc: Global,
@@ -188,7 +188,7 @@ pub fn exit_status(end: End) -> u8
     }
 }
 
-// Serves a connection over an empty table, at the moments of the host's clock.
+// Serves a connection over rows in memory without a repository, at the moments of the host's clock, and closes them.
 fn pipe<H: Host, C: Source, K: Sink>(
     alloc: Global,
     host: &mut H,
@@ -200,7 +200,11 @@ fn pipe<H: Host, C: Source, K: Sink>(
     ensures host { H.faults host.new ≡ H.faults host.old }
     ensures files { H.files host.new ≡ H.files host.old }
 {
-    let mut table = RepoShard::new(alloc);
-    let mut clock = host.clock();
-    serve_table(alloc, &mut table, &mut clock, input, output)
+    match memory_rows(alloc) {
+        Ok(rows) => {
+            let mut clock = host.clock();
+            serve_to_close(alloc, rows, &mut clock, input, output).end
+        }
+        Err(_) => End::NoMemory,
+    }
 }
