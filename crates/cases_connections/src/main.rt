@@ -4,8 +4,8 @@
 #![tactic(auto)]
 
 mod faults;
+mod rows;
 mod running;
-mod tables;
 
 use std::io;
 use std::process::ExitCode;
@@ -23,8 +23,8 @@ fn call(case: &Case, answer: &mut Answer) {
         "failing-reads" => faults::failing(answer, given, false),
         "failing-writes" => faults::failing(answer, given, true),
         "failing-notes" => faults::failing_notes(answer, given),
-        "moments" => tables::moments(answer, given),
-        "connections" => tables::connections(answer, given),
+        "moments" => rows::moments(answer, given),
+        "connections" => rows::connections(answer, given),
         _ => answer.fail("no such call"),
     }
 }
