@@ -10,7 +10,7 @@ ghost use Rattle.zot_rows.specs.declared.rows_open_error.RowsOpenError.TheVarian
 
 use std::alloc::{AllocError, Global};
 use zot_contents::SHARDS;
-use zot_core::RowConfig;
+use zot_repo::RowConfig;
 use zot_fakes::SteadyStore;
 use zot_rows::{Rows, RowsOpenError};
 

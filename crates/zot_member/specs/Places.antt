@@ -1,6 +1,6 @@
 -- Where a request that came to a member is answered.
 use Rattle.std.specs.Prelude.{ℕ, ◌==◌, Bool, true, false, List, Option, Some, None, if◌then◌else◌}
-use Rattle.zot_core.specs.declared.row_config.RowConfig.{RowConfig}
+use Rattle.zot_repo.specs.declared.row_config.RowConfig.{RowConfig}
 use Rattle.zot_model.specs.declared.request.Request.{Request}
 use Rattle.zot_siphash.specs.Owners as owners
 use Rattle.zot_siphash.specs.SipHash.{siphash}

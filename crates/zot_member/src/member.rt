@@ -4,7 +4,7 @@ ghost use Rattle.zot_member.specs.Places.{place_by};
 ghost use Rattle.zot_siphash.specs.Owners.{AreMembers};
 
 use crate::place::Place;
-use zot_core::RowConfig;
+use zot_repo::RowConfig;
 use zot_model::Request;
 use zot_siphash::owner_of;
 

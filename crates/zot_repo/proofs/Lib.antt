@@ -1,4 +1,13 @@
-pub mod AnswerLemmas
-pub mod ReadLemmas
-pub mod ReferrerLemmas
 pub mod RowLemmas
+pub mod RowStepLemmas
+pub mod StandLemmas
+pub mod TakingLemmas
+pub mod RowTurnLemmas
+pub mod SeatLemmas
+pub mod AskLemmas
+pub mod DriveLemmas
+pub mod DrivesLemmas
+pub mod StepLemmas
+pub mod OpenedLemmas
+pub mod HeldLemmas
+pub mod OpenLemmas

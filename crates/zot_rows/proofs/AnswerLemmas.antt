@@ -8,12 +8,12 @@ use Rattle.std.proofs.lemmas.Option.{slice_get-get_or}
 use mathlib.Core.Logic.{dite}
 use native.Mathlib.Decide.{ℕ_discrete}
 use Rattle.zot_contents.specs.Pool.{Holders}
-use Rattle.zot_core.proofs.StepLemmas.{other_agrees, other_stays}
-use Rattle.zot_core.specs.RowGoing.{IsOwn, OnName}
-use Rattle.zot_core.specs.Rows.{AgreesRow}
-use Rattle.zot_core.specs.Shards.{HasShardCause, IsCounted, KeepsOtherNames, StepsRow}
-use Rattle.zot_core.specs.declared.row_config.RowConfig.{RowConfig}
-use Rattle.zot_core.specs.declared.shard.RepoShard.{RepoShard}
+use Rattle.zot_repo.proofs.StepLemmas.{other_agrees, other_stays}
+use Rattle.zot_repo.specs.RowGoing.{IsOwn, OnName}
+use Rattle.zot_repo.specs.Rows.{AgreesRow}
+use Rattle.zot_repo.specs.Shards.{HasShardCause, IsCounted, KeepsOtherNames, StepsRow}
+use Rattle.zot_repo.specs.declared.row_config.RowConfig.{RowConfig}
+use Rattle.zot_repo.specs.declared.shard.RepoShard.{RepoShard}
 use Rattle.zot_model.proofs.HistoryLemmas.{same_itself}
 use Rattle.zot_model.specs.History.{Run, entry_for}
 use Rattle.zot_model.specs.State.{AreSame, RowState, empty_row}

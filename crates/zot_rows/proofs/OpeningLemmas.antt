@@ -9,11 +9,6 @@ use Rattle.std.proofs.lemmas.Simd.{map-map}
 use Rattle.zot_contents.specs.Pool.{Holders}
 use Rattle.zot_contents.specs.declared.holding.Holding.{Holding}
 use Rattle.zot_contents.specs.declared.shard.DigestShard.{DigestShard}
-use Rattle.zot_core.specs.Opening.{AreAllOf, AreOpened, AreOwn, IsOpenedRow}
-use Rattle.zot_core.specs.RowGoing.{IsOwn}
-use Rattle.zot_core.specs.Rows.{AgreesRow, Tables, state_of}
-use Rattle.zot_core.specs.declared.row_config.RowConfig.{RowConfig}
-use Rattle.zot_core.specs.declared.shard.RepoShard.{RepoShard}
 use Rattle.zot_layout.specs.Causes.{HasLayoutCause}
 use Rattle.zot_layout.specs.Rows.{OpensRow}
 use Rattle.zot_layout.specs.declared.layout_error.LayoutError.{LayoutError}
@@ -22,6 +17,11 @@ use Rattle.zot_outside.specs.Objects.{Objects}
 use Rattle.zot_outside.specs.declared.stores.store.Store.{Ghosts}
 use Rattle.zot_pool.proofs.SeamLemmas.{others_stay, part_before, part_here, risen_here, seen_after, seen_before, stops_within}
 use Rattle.zot_pool.specs.Pools.{part_at}
+use Rattle.zot_repo.specs.Opening.{AreAllOf, AreOpened, AreOwn, IsOpenedRow}
+use Rattle.zot_repo.specs.RowGoing.{IsOwn}
+use Rattle.zot_repo.specs.Rows.{AgreesRow, Tables, state_of}
+use Rattle.zot_repo.specs.declared.row_config.RowConfig.{RowConfig}
+use Rattle.zot_repo.specs.declared.shard.RepoShard.{RepoShard}
 use Rattle.zot_rows.specs.Agreed.{AreAgreed, AreRows, IsRow}
 use Rattle.zot_rows.specs.Listing.{EachHeld, EachOwn, lists_of, rows_of}
 use Rattle.zot_rows.specs.Opening.{AllAreWhole, AreOpenedOver, AreOpenedRows, AreWhole, HasRowsCause, IsFirstBadRow, IsOpenedOver, OnBadRow, StopsAtRow, row_error}

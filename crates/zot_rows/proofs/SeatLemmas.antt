@@ -4,10 +4,10 @@ use Rattle.std.specs.Prelude.{unwrap_or, option_map}
 use Rattle.std.specs.List.{AllByRecursion}
 use Rattle.zot_contents.specs.Holders.{IsOwner, PoolEntry, is_own, name_in}
 use Rattle.zot_contents.specs.Pool.{Holders}
-use Rattle.zot_core.specs.Seats.{EntersPool}
-use Rattle.zot_core.specs.declared.row_config.RowConfig.{RowConfig}
 use Rattle.zot_history.specs.History.{signed}
 use Rattle.zot_pool.specs.Pools.{BothHold}
+use Rattle.zot_repo.specs.Seats.{EntersPool}
+use Rattle.zot_repo.specs.declared.row_config.RowConfig.{RowConfig}
 use Rattle.zot_rows.specs.Rows.{row_by}
 use Rattle.zot_rows.specs.Seats.{AreOfOwners, EntersByOwners, is_of_row}
 

@@ -2,10 +2,10 @@
 use Rattle.std.specs.Prelude.{◌≡◌, ℕ, ◌+◌, ◌≤◌, List, map, sum, Option, IfSome, option_map, slice_index, unwrap_or}
 use Rattle.std.specs.List.{slice_get}
 use Rattle.zot_contents.specs.Pool.{Holders}
-use Rattle.zot_core.specs.Rows.{state_of}
-use Rattle.zot_core.specs.Shards.{HasShardCause}
-use Rattle.zot_core.specs.declared.row_config.RowConfig.{RowConfig}
-use Rattle.zot_core.specs.declared.shard.RepoShard.{RepoShard}
+use Rattle.zot_repo.specs.Rows.{state_of}
+use Rattle.zot_repo.specs.Shards.{HasShardCause}
+use Rattle.zot_repo.specs.declared.row_config.RowConfig.{RowConfig}
+use Rattle.zot_repo.specs.declared.shard.RepoShard.{RepoShard}
 use Rattle.zot_model.specs.State.{RowState, empty_row}
 use Rattle.zot_model.specs.declared.reply.Reply.{Reply}
 use Rattle.zot_outside.specs.Faults.{Rose}

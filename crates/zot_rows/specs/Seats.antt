@@ -3,7 +3,7 @@ use Rattle.std.specs.Prelude.{◌≡◌, ◌==◌, ℕ, Bool, List, IfSome}
 use Rattle.std.specs.List.{AllByRecursion}
 use Rattle.zot_contents.specs.Holders.{History, PoolEntry, name_in}
 use Rattle.zot_contents.specs.Pool.{Holders}
-use Rattle.zot_core.specs.declared.row_config.RowConfig.{RowConfig}
+use Rattle.zot_repo.specs.declared.row_config.RowConfig.{RowConfig}
 use Rattle.zot_rows.specs.Rows.{row_by}
 
 -- each entry is of the seat of the row that the repository is in of which it speaks

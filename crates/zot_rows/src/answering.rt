@@ -11,9 +11,9 @@ ghost use Rattle.zot_rows.specs.Seats.{EntersByOwners};
 
 use crate::rows::Rows;
 use std::alloc::Global;
-use zot_core::RowConfig;
 use zot_model::{Reply, Request};
 use zot_outside::Store;
+use zot_repo::RowConfig;
 use zot_siphash::{owners_and_rows, row_of};
 
 impl<S: Store> Rows<S> {

@@ -1,6 +1,6 @@
 use Rattle.std.proofs.Common.{◌<◌, ℕ, length, map, set, sym, ap, subst, ◌∙◌}
 use Rattle.std.specs.Prelude.{IfSome, sum}
-use Rattle.zot_core.specs.RowGoing.{IsOwn}
+use Rattle.zot_repo.specs.RowGoing.{IsOwn}
 use Rattle.zot_pool.specs.Pools.{ChangesOnly, faults_of, holds, objects_of}
 use Rattle.zot_pool.proofs.PoolLemmas.{set_beside}
 use Rattle.zot_rows.proofs.AnswerLemmas.{agreed_then, answered, counts, faulted, still_rows}
