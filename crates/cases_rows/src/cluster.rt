@@ -4,9 +4,9 @@ use crate::place::{KEY, MEMBERS, Place};
 use crate::setup::Setup;
 use std::alloc::Global;
 use zot_cases::Answer;
-use zot_repo::RowConfig;
 use zot_noting::NotingStore;
 use zot_outside::Parts;
+use zot_repo::RowConfig;
 use zot_rows::{Rows, RowsOpenError, UnopenedRows};
 
 /// Opens the rows of a cluster over its parts. Where these aren't as many as there have to be, it is as if memory ran out.

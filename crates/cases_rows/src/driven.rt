@@ -8,9 +8,9 @@ use crate::place::{KEY, MEMBERS};
 use crate::stepped::Stepped;
 use std::alloc::Global;
 use zot_contents::PoolReply;
-use zot_repo::{RowConfig, RowCore, RowNext, UnopenedRow};
 use zot_model::{Request, RowCall};
 use zot_noting::NotingStore;
+use zot_repo::{RowConfig, RowCore, RowNext, UnopenedRow};
 use zot_siphash::row_of;
 
 /// A row without a pool, with its number and its configuration.

@@ -6,11 +6,11 @@ use crate::setup::Setup;
 use std::alloc::Global;
 use zot_cases::Answer;
 use zot_contents::{PoolCall, PoolReply};
-use zot_repo::RowNext;
 use zot_model::{RowCall, RowReply};
 use zot_noting::NotingStore;
 use zot_outside::Parts;
 use zot_pool::Pool;
+use zot_repo::RowNext;
 
 // How many turns a call has at most.
 const MOST: u64 = 1000;

@@ -25,11 +25,11 @@ mod uploads;
 use std::io;
 use std::process::ExitCode;
 use zot_cases::{Answer, Case, run};
-use zot_repo::other_rows_stay;
 use zot_model::{
     answers_fit, common_refusals_fit, manifest_comes_back, needed_blobs_stay, pages_are_the_list,
     repositories_stand_alone,
 };
+use zot_repo::other_rows_stay;
 use zot_uploads::{few_are_open, one_answer, others_stay};
 
 // Makes the call of a case.

@@ -5,10 +5,10 @@ ghost use Rattle.zot_siphash.specs.Owners.{AreMembers};
 use crate::driven::is_own;
 use crate::place::{KEY, MEMBERS};
 use std::alloc::Global;
-use zot_repo::{RepoShard, RowConfig, RowCore, UnopenedRow};
 use zot_model::{Reply, Request, RowCall, RowReply};
 use zot_noting::NotingStore;
 use zot_pool::Pool;
+use zot_repo::{RepoShard, RowConfig, RowCore, UnopenedRow};
 
 /// A row, with its number and its configuration.
 #[derive(Drop)]

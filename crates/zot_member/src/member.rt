@@ -4,8 +4,8 @@ ghost use Rattle.zot_member.specs.Places.{place_by};
 ghost use Rattle.zot_siphash.specs.Owners.{AreMembers};
 
 use crate::place::Place;
-use zot_repo::RowConfig;
 use zot_model::Request;
+use zot_repo::RowConfig;
 use zot_siphash::owner_of;
 
 /// A member of a cluster: its number, and by which key, and of how many members, it is one.
