@@ -1,10 +1,12 @@
 //! Runs of the program's commands over an input in memory.
-use std::alloc::Global;
+use std::alloc::{AllocError, Global};
 use std::io::{self, ErrorKind};
 use zot_cases::{Answer, cut, number};
 use zot_commands::{run_given, run_waiting};
-use zot_fakes::{MemorySink, MemorySource};
+use zot_fakes::{MemorySink, MemorySource, MemoryStore};
 use zot_host::MemoryHost;
+use zot_outside::OpenGate;
+use zot_pool::MemoryUpstream;
 
 /// The numbers of the calls that fail: of the reads, of the writes to the output, and of those to the notes; 0 for none.
 #[derive(Clone, Copy)]
@@ -38,7 +40,7 @@ pub fn run_words(
     );
     let mut sink = MemorySink::in_pieces(alloc, piece, list_of(alloc, &[failing.write]));
     let mut notes = MemorySink::in_pieces(alloc, 4, list_of(alloc, &[failing.note]));
-    let Ok(mut host) = MemoryHost::new(alloc, Vec::new(alloc), 7) else {
+    let Ok(mut host) = host_of(alloc) else {
         return Answer::new(alloc);
     };
     let status = run_waiting(alloc, words, &mut host, &mut source, &mut sink, &mut notes);
@@ -49,6 +51,20 @@ pub fn run_words(
 pub fn run_pipe(alloc: Global, input: &[u8], piece: usize, failing: Failing) -> Answer {
     let words = words_of(alloc, "pipe,");
     run_words(alloc, words.as_slice(), input, piece, failing)
+}
+
+// A host in memory without files, parts and upstreams.
+fn host_of(
+    alloc: Global,
+) -> Result<MemoryHost<MemoryStore, MemoryUpstream, OpenGate>, AllocError> {
+    MemoryHost::new(
+        alloc,
+        Vec::new(alloc),
+        Vec::new(alloc),
+        Vec::new(alloc),
+        7,
+        OpenGate,
+    )
 }
 
 // The text of a run.
@@ -116,7 +132,7 @@ pub fn arguments(answer: &mut Answer, given: &str) {
     let mut source = MemorySource::new(list_of(alloc, b"GET"), 4, Vec::new(alloc));
     let mut sink = MemorySink::new(alloc, Vec::new(alloc));
     let mut notes = MemorySink::new(alloc, Vec::new(alloc));
-    let Ok(mut host) = MemoryHost::new(alloc, Vec::new(alloc), 7) else {
+    let Ok(mut host) = host_of(alloc) else {
         return answer.fail("out of memory");
     };
     let status = run_given(

@@ -1,9 +1,9 @@
 //! Changes of what is held: the calls of the store that each makes, and what is held where one of them fails.
-use crate::noting_store::NotingStore;
 use crate::objects::say_path;
 use crate::scripts::{open, play, say_held, store_of};
 use std::alloc::Global;
 use zot_cases::{Answer, cut};
+use zot_noting::NotingStore;
 
 // A script that was played: the store after it, and its answers.
 #[derive(Drop)]

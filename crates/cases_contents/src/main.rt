@@ -6,7 +6,6 @@
 mod calls;
 mod changes;
 mod many;
-mod noting_store;
 mod objects;
 mod plain_pool;
 mod pool;

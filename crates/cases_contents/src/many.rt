@@ -1,6 +1,5 @@
 //! Many digests of a shard, under random changes, against a plain pool.
 use crate::calls::{name_of, say_reply};
-use crate::noting_store::NotingStore;
 use crate::plain_pool::PlainPool;
 use crate::pool::Pool;
 use crate::random::Random;
@@ -9,6 +8,7 @@ use zot_cases::{Answer, number, word};
 use zot_contents::{Holding, PoolCall, PoolReply, shard_of};
 use zot_digest::{Bytes, Digest, digest_of};
 use zot_names::RepoName;
+use zot_noting::NotingStore;
 
 // The shard.
 const NUMBER: u32 = 0;

@@ -2,9 +2,9 @@
 ghost use Rattle.std.specs.Prelude.{◌≡◌, IsTrue};
 ghost use Rattle.zot_contents.specs.Shards.{IsCallOf};
 
-use crate::noting_store::NotingStore;
 use std::alloc::Global;
 use zot_contents::{DigestShard, PoolCall, PoolReply, Unopened, shard_of};
+use zot_noting::NotingStore;
 
 /// A shard of digests, with its number.
 #[derive(Drop)]

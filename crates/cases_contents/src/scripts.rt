@@ -1,12 +1,12 @@
 //! Scripts of calls under the digest of `abc` on its shard, over a store in memory.
 use crate::calls::{call_of, say_reply};
-use crate::noting_store::NotingStore;
 use crate::objects::{objects_of, say_objects, say_path};
 use crate::pool::Pool;
 use std::alloc::Global;
 use zot_cases::{Answer, cut, word};
 use zot_contents::{Holding, LayoutFault, PoolCall, PoolReply, Unopened, shard_of};
 use zot_digest::{Digest, digest_of};
+use zot_noting::NotingStore;
 
 /// The digest of the scripts.
 pub fn subject() -> Digest {

@@ -1,9 +1,10 @@
-//! Cases of the commands that read files of a host: the system's, which lie in `data/`, and those of hosts in memory.
+//! Cases of hosts: of the commands that read their files, the system's, which lie in `data/`, and those of hosts in memory; and of their parts.
 //!
 //! A case as `example: system verify,example.json, => 0 []ok 2 members\n` runs a command over the system.
 #![tactic(auto)]
 
 mod hosts;
+mod parts;
 mod running;
 
 use std::io;
@@ -20,6 +21,11 @@ fn call(rt: HostRuntime, case: &Case, answer: &mut Answer) {
         "failing-write" => running::failing_write(answer, given),
         "failing-note" => running::failing_note(answer, given),
         "failing-host" => running::failing_host(answer, given),
+        "parts" => parts::parts(answer, given),
+        "cluster" => parts::cluster(answer, given),
+        "upstreams" => parts::upstreams(answer, given),
+        "scratch" => parts::scratch(answer, given),
+        "folder" => parts::folder(rt, case, answer),
         _ => answer.fail("no such call"),
     }
 }

@@ -1,10 +1,12 @@
 //! Runs of commands over hosts.
 use crate::hosts::FaultyHost;
-use std::alloc::Global;
+use std::alloc::{AllocError, Global};
 use zot_cases::{Answer, cut, number};
 use zot_commands::run_plain;
-use zot_fakes::MemorySink;
+use zot_fakes::{MemorySink, MemoryStore};
 use zot_host::{Host, MemoryHost, SystemHost};
+use zot_outside::OpenGate;
+use zot_pool::MemoryUpstream;
 
 /// The numbers of the calls that fail: of the writes to the output, and of those to the notes; 0 for none.
 #[derive(Clone, Copy)]
@@ -52,10 +54,18 @@ fn verify_text(answer: &mut Answer, text: &str, failing: Failing) {
     let bytes = answer.bytes_of(text);
     add_file(alloc, &mut files, "zot.json", bytes);
     let words = words_of(alloc, "verify,zot.json,");
-    match MemoryHost::new(alloc, files, 7) {
+    match host_of(alloc, files) {
         Ok(mut host) => run_over(answer, words.as_slice(), &mut host, failing),
         Err(_) => answer.fail("out of memory"),
     }
+}
+
+// A host in memory with these files, without parts and upstreams.
+fn host_of(
+    alloc: Global,
+    files: Vec<(String, Vec<u8>)>,
+) -> Result<MemoryHost<MemoryStore, MemoryUpstream, OpenGate>, AllocError> {
+    MemoryHost::new(alloc, files, Vec::new(alloc), Vec::new(alloc), 7, OpenGate)
 }
 
 // Adds a file to a list.
@@ -86,7 +96,7 @@ pub fn twice(answer: &mut Answer, given: &str) {
         let bytes = answer.bytes_of(text);
         add_file(alloc, &mut files, "zot.json", bytes);
     }
-    match MemoryHost::new(alloc, files, 7) {
+    match host_of(alloc, files) {
         Ok(mut host) => {
             for words in ["verify,zot.json,", "verify,json,"] {
                 answer.begin();

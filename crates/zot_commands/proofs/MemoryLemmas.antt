@@ -9,12 +9,12 @@ use Rattle.std.proofs.lemmas.Option.{slice_get_within}
 use Rattle.zot_contents.specs.Opening.{IsFirstBad}
 use Rattle.zot_contents.specs.Pool.{Holders}
 use Rattle.zot_contents.specs.Shards.{IsTightTree, shard_of, shards}
-use Rattle.zot_core.proofs.RowLemmas.{repo_is}
-use Rattle.zot_core.specs.Opening.{IsOpenedRepo, IsOpenedRow}
-use Rattle.zot_core.specs.RowGoing.{IsOwn}
-use Rattle.zot_core.specs.Rows.{AgreesRow, Tables, is_digest, state_of, under}
-use Rattle.zot_core.specs.declared.row_config.RowConfig.{RowConfig}
-use Rattle.zot_core.specs.declared.shard.RepoShard.{RepoShard}
+use Rattle.zot_repo.proofs.RowLemmas.{repo_is}
+use Rattle.zot_repo.specs.Opening.{IsOpenedRepo, IsOpenedRow}
+use Rattle.zot_repo.specs.RowGoing.{IsOwn}
+use Rattle.zot_repo.specs.Rows.{AgreesRow, Tables, is_digest, state_of, under}
+use Rattle.zot_repo.specs.declared.row_config.RowConfig.{RowConfig}
+use Rattle.zot_repo.specs.declared.shard.RepoShard.{RepoShard}
 use Rattle.zot_digest.specs.ByteMap.{byte_cmp}
 use Rattle.zot_layout.specs.Paths.{index_path, marker_path}
 use Rattle.zot_layout.specs.Rows.{AreMarked, OpensRow, layout_by, layout_of, opened}

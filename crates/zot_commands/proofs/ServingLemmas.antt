@@ -1,6 +1,6 @@
 -- A connection that is served over rows, request by request.
 use Rattle.std.proofs.Common.{◌≡◌, ◌≤◌, ◌+◌, ◌-◌, ◌^◌, arith, ℕ, List, [], ◌∷◌, Option, Some, None, refl, sym, ap, ◌∙◌, subst}
-use Rattle.zot_core.specs.declared.row_config.RowConfig.{RowConfig}
+use Rattle.zot_repo.specs.declared.row_config.RowConfig.{RowConfig}
 use Rattle.zot_model.specs.declared.reply.Reply.{Reply}
 use Rattle.zot_model.specs.declared.request.Request.{Request}
 use Rattle.zot_outside.proofs.MomentLemmas.{stays_itself, stays_through}

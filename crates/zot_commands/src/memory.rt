@@ -10,8 +10,8 @@ ghost use Rattle.zot_rows.specs.declared.rows_open_error.RowsOpenError.TheVarian
 
 use std::alloc::{AllocError, Global};
 use zot_contents::SHARDS;
-use zot_core::RowConfig;
 use zot_fakes::SteadyStore;
+use zot_repo::RowConfig;
 use zot_rows::{Rows, RowsOpenError};
 
 /// The rows of one member in memory, without a repository, whose pool makes links of equal bytes. It fails only where memory runs out.

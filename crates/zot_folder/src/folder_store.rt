@@ -34,16 +34,27 @@ pub struct FolderStore<T: Tree> {
     ghost walked: { Walks (objects_of (T.files tree)) walk } by { Prim.hlevel props },
 }
 
+impl<T: Tree> FolderStore<T> {
+    /// The store of the files of a tree. Takes no memory.
+    pub fn over(tree: T, alloc: Global) -> FolderStore<T>
+        ensures tree { result.tree ≡ tree }
+        ensures faults { result.faults ≡ 0 }
+    {
+        FolderStore {
+            tree,
+            walk: Walk::new(alloc),
+            faults: 0,
+        }
+    }
+}
+
 impl<R: Files<File = File> + AllocGlobal + Clone + Drop> FolderStore<Disk<R>> {
     /// The store of the folder of this name. It takes memory for the name.
     pub fn new(rt: R, alloc: Global, root: &str) -> Result<FolderStore<Disk<R>>, AllocError>
         ensures { IfOk result (λ store. store.faults ≡ 0) }
     {
-        Ok(FolderStore {
-            tree: Disk::new(rt, alloc, root)?,
-            walk: Walk::new(alloc),
-            faults: 0,
-        })
+        let folder = Disk::new(rt, alloc, root)?;
+        Ok(FolderStore::over(folder, alloc))
     }
 }
 

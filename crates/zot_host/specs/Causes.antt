@@ -39,3 +39,8 @@ pub record Declines {T : Type 0} (kind : ErrorKind) (result : Result T HostError
   pub absent : IsAbsent kind → result ≡ Err Missing
   pub memory : kind ≡ OutOfMemory → result ≡ Err NoMemory
   pub other : ¬ IsAbsent kind → kind ≢ OutOfMemory → result ≡ Err Failed
+
+-- the call failed exactly where this holds
+pub record FailsJustWhere {T : Type 0} (result : Result T HostError) (P : Type 0) : Type 0 where
+  pub failed : OnFailed result P
+  pub always : P → result ≡ Err Failed

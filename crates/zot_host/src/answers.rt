@@ -1,7 +1,9 @@
 //! What the system's answers mean to a host.
-ghost use Rattle.std.specs.Prelude.{◌≡◌, Err, IfErr, IfOk, Ok};
+ghost use Rattle.std.specs.Prelude.{◌≡◌, ◌≤◌, Err, IfErr, IfOk, Ok};
 ghost use Rattle.std.specs.IoError.{error_kind};
 ghost use Rattle.zot_host.specs.Causes.{Declines, HasHostCause};
+ghost use Rattle.zot_host.specs.declared.host_error.HostError.TheVariants as errors;
+ghost use Rattle.zot_outside.specs.Faults.{Rose};
 
 use crate::host_error::{HostError, HostResult};
 use std::io;
@@ -21,4 +23,14 @@ pub fn answer<T>(faults: &mut u64, read: io::Result<T>) -> HostResult<T>
         Err(StoreError::Failed) => Err(HostError::Failed),
         Err(StoreError::NoMemory) => Err(HostError::NoMemory),
     }
+}
+
+/// Counts a fault. The count stops at its end.
+pub fn fault(faults: &mut u64) -> HostError
+    ensures answer { result ≡ errors.Failed }
+    ensures later { faults.old ≤ faults.new }
+    ensures rose { Rose faults.old faults.new }
+{
+    *faults = faults.saturating_add(1);
+    HostError::Failed
 }

@@ -1,6 +1,7 @@
 //! The configuration in a file of a host.
 ghost use Rattle.std.specs.Prelude.{◌≡◌};
 ghost use Rattle.zot_host.specs.Configured.{CountsFaults, IsOf, StandsFor};
+ghost use Rattle.zot_host.specs.Parts.{KeepsRoom};
 
 use crate::host::Host;
 use crate::host_error::HostError;
@@ -17,6 +18,9 @@ pub fn configuration<H: Host>(
     ensures cause { CountsFaults result (H.faults host.old) (H.faults host.new) }
     ensures config { IsOf (H.files host.old) path.now result }
     ensures files { H.files host.new ≡ H.files host.old }
+    ensures parts { H.parts host.new ≡ H.parts host.old }
+    ensures kept { H.kept host.new ≡ H.kept host.old }
+    ensures room { KeepsRoom (H.room host.old) (H.room host.new) }
     ensures moment { H.moment host.new ≡ H.moment host.old }
 {
     match host.file(alloc, path) {

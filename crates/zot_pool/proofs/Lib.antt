@@ -2,3 +2,4 @@ pub mod UpstreamLemmas
 pub mod ListLemmas
 pub mod PoolLemmas
 pub mod OpeningLemmas
+pub mod SeamLemmas

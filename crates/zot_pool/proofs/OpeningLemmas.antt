@@ -1,13 +1,12 @@
 -- A pool that is opened part by part.
 use Rattle.std.proofs.Common.{◌≡◌, ℕ, zero, suc, ◌+◌, ◌<◌, arith, inl, inr, Bool, true, List, [], ◌∷◌, ◌++◌, append-nil, map, length, take, drop, get_or, Option, Some, None, IfSome, option_map, refl, sym, ap, subst, ◌∙◌}
-use Rattle.std.specs.Prelude.{slice_index}
-use Rattle.std.specs.List.{AllByRecursion, range_with_len, remove, slice_get}
+use Rattle.std.specs.List.{AllByRecursion, range_with_len, remove}
 use Rattle.std.specs.Option.{option_flatten}
-use Rattle.std.proofs.Math.Seq.{drop-cons, get_or-append_seam}
-use Rattle.std.proofs.lemmas.List.{length-append, length-map, map-append, take_more}
+use Rattle.std.proofs.Math.Seq.{drop-cons}
+use Rattle.std.proofs.lemmas.List.{length-append, take_more}
 use Rattle.std.proofs.lemmas.List.Elements.{All-from_recursion, All-get_or}
 use Rattle.std.proofs.lemmas.Option.{slice_get-map, slice_get_cases}
-use Rattle.zot_outside.specs.Faults.{Rose}
+use Rattle.std.proofs.lemmas.Simd.{map-map}
 use Rattle.zot_outside.specs.Objects.{Objects}
 use Rattle.zot_outside.specs.declared.stores.store.Store.{Ghosts}
 use Rattle.zot_contents.proofs.ShardLemmas.{tight_tree}
@@ -17,8 +16,9 @@ use Rattle.zot_contents.specs.declared.layout_fault.LayoutFault.{LayoutFault}
 use Rattle.zot_contents.specs.declared.layout_fault.LayoutFault.TheVariants as faults
 use Rattle.zot_contents.specs.declared.shard.DigestShard.{DigestShard}
 use Rattle.zot_pool.proofs.PoolLemmas.{number_is}
+use Rattle.zot_pool.proofs.SeamLemmas.{others_stay, part_before, part_here, risen_here, seen_after, seen_before, stops_within}
 use Rattle.zot_pool.specs.Opening.{AllHaveMeaning, AreOpened, AreTightTrees, HasOpenCause, IsFirstBadPart, IsOpened, OnBadRecord, StopsAt, open_error}
-use Rattle.zot_pool.specs.Pools.{AreDeduped, AreNumbered, AreTightPool, ChangesOnly, faults_of, objects_of, part_at}
+use Rattle.zot_pool.specs.Pools.{AreDeduped, AreNumbered, AreTightPool, faults_of, objects_of, part_at}
 use Rattle.zot_pool.specs.declared.pool_open_error.PoolOpenError.{PoolOpenError}
 
 -- ---- lists
@@ -38,21 +38,6 @@ pub split_at : {X : Type 0} (xs : List X) (x : X) (k : ℕ) → k < length xs �
 split_at [] x k within is = absurd (omega arith)
 split_at (y ∷ xs) x zero within is = ap (λ z. z ∷ xs) (sym is)
 split_at (y ∷ xs) x (suc k) within is = ap (λ l. y ∷ l) (split_at xs x k (omega arith) is)
-
-pub other_at : {X : Type 0} (front : List X) (x y : X) (back : List X) → ChangesOnly (length front) (front ++ (x ∷ back)) (front ++ (y ∷ back))
-other_at [] x y back zero apart = absurd (apart refl)
-other_at [] x y back (suc other) apart = refl
-other_at (z ∷ front) x y back zero apart = refl
-other_at (z ∷ front) x y back (suc other) apart = other_at front x y back other (λ e. apart (ap suc e))
-
-pub in_front : {X : Type 0} (front back : List X) (k : ℕ) → k < length front → slice_get (front ++ back) k ≡ slice_get front k
-in_front [] back k within = absurd (omega arith)
-in_front (x ∷ front) back zero within = refl
-in_front (x ∷ front) back (suc k) within = in_front front back k (omega arith)
-
-pub at_seam : {X : Type 0} (front : List X) (x : X) (back : List X) → slice_get (front ++ (x ∷ back)) (length front) ≡ Some x
-at_seam [] x back = refl
-at_seam (y ∷ front) x back = at_seam front x back
 
 -- ---- one shard more
 
@@ -144,36 +129,19 @@ module _ {S : Type 0} {G : Ghosts S} (dedupe : Bool) where
     abbrev parts_of : List (DigestShard S G) → List S
     parts_of l = map (λ s. s.part) l
 
-    -- a list of what is seen of the parts, before and after
-    seen_before : {X : Type 0} (f : S → X) → map f parts ≡ map f stops.done ++ (f stops.part ∷ map f stops.rest)
-    seen_before f = ap (map f) stops.split ∙ map-append f stops.done (stops.part ∷ stops.rest)
-
-    seen_after : {X : Type 0} (f : S → X) → map (λ (s : DigestShard S G). f s.part) owned ≡ map f stops.done → map f (parts_of owned ++ left) ≡ map f stops.done ++ (f stops.back ∷ map f stops.rest)
-    seen_after f same =
-        ap (λ l. map f (parts_of owned ++ l)) stops.left_is ∙ map-append f (parts_of owned) (stops.back ∷ stops.rest)
-        ∙ ap (λ l. l ++ (f stops.back ∷ map f stops.rest)) (twice owned ∙ same) where
-          twice : (l : List (DigestShard S G)) → map f (map (λ s. s.part) l) ≡ map (λ s. f s.part) l
-          twice [] = refl
-          twice (s ∷ l) = ap (λ m. f s.part ∷ m) (twice l)
+    back_seen : {X : Type 0} (f : S → X) → map (λ (s : DigestShard S G). f s.part) owned ≡ map f stops.done → map f (parts_of owned ++ left) ≡ map f stops.done ++ (f stops.back ∷ map f stops.rest)
+    back_seen f = seen_after f (λ (s : DigestShard S G). s.part) owned stops.done stops.rest left stops.back stops.left_is
 
     pub back_objects : map G.objects (parts_of owned ++ left) ≡ map G.objects parts
     back_objects =
-        seen_after G.objects (opened_objects 0 stops.done owned stops.opened)
-        ∙ ap (λ o. map G.objects stops.done ++ (o ∷ map G.objects stops.rest)) stops.objects ∙ sym (seen_before G.objects)
+        back_seen G.objects (opened_objects 0 stops.done owned stops.opened)
+        ∙ ap (λ o. map G.objects stops.done ++ (o ∷ map G.objects stops.rest)) stops.objects ∙ sym (seen_before G.objects parts stops.done stops.rest stops.part stops.split)
 
     abbrev counts : ℕ → List ℕ
     counts n = map G.faults stops.done ++ (n ∷ map G.faults stops.rest)
 
-    front_long : length (map G.faults stops.done) ≡ length stops.done
-    front_long = length-map stops.done G.faults
-
-    count_at : (n : ℕ) → slice_index (counts n) (length stops.done) ≡ n
-    count_at n = ap (slice_index (counts n)) (sym front_long) ∙ get_or-append_seam (map G.faults stops.done) n (map G.faults stops.rest) 0
-
     among : length parts ≡ shards → length stops.done < shards
-    among many =
-        let whole : length (stops.done ++ (stops.part ∷ stops.rest)) ≡ shards = ap length (sym stops.split) ∙ many in
-        omega (arith, whole, length-append stops.done (stops.part ∷ stops.rest))
+    among many = subst (λ n. length stops.done < n) many (stops_within parts stops.done stops.rest stops.part stops.split)
 
     cause_of : length parts ≡ shards → (fault : LayoutFault) → HasFaultCause (G.faults stops.part) (G.faults stops.back) fault
         → HasOpenCause (counts (G.faults stops.part)) (counts (G.faults stops.back)) (open_error (length stops.done) fault)
@@ -181,10 +149,8 @@ module _ {S : Type 0} {G : Ghosts S} (dedupe : Bool) where
     cause_of many faults.Failed cause = record {
       failed = record {
         within = among many;
-        here = subst (λ n. Rose n (slice_index (counts (G.faults stops.back)) (length stops.done))) (sym (count_at (G.faults stops.part)))
-            (subst (Rose (G.faults stops.part)) (sym (count_at (G.faults stops.back))) cause.failed);
-        others = subst (λ n. ChangesOnly n (counts (G.faults stops.part)) (counts (G.faults stops.back))) front_long
-            (other_at (map G.faults stops.done) (G.faults stops.part) (G.faults stops.back) (map G.faults stops.rest));
+        here = risen_here G.faults stops.done stops.rest (G.faults stops.part) (G.faults stops.back) cause.failed;
+        others = others_stay G.faults stops.done stops.rest (G.faults stops.part) (G.faults stops.back);
       };
       kept = tt;
     }
@@ -193,30 +159,18 @@ module _ {S : Type 0} {G : Ghosts S} (dedupe : Bool) where
     pub back_cause : length parts ≡ shards → HasOpenCause (map G.faults parts) (map G.faults (parts_of owned ++ left)) error
     back_cause many =
         subst (HasOpenCause (map G.faults parts) (map G.faults (parts_of owned ++ left))) (sym stops.error_is)
-        (subst (λ l. HasOpenCause l (map G.faults (parts_of owned ++ left)) (open_error (length stops.done) stops.fault)) (sym (seen_before G.faults))
-        (subst (λ l. HasOpenCause (counts (G.faults stops.part)) l (open_error (length stops.done) stops.fault)) (sym (seen_after G.faults (opened_faults 0 stops.done owned stops.opened)))
+        (subst (λ l. HasOpenCause l (map G.faults (parts_of owned ++ left)) (open_error (length stops.done) stops.fault)) (sym (seen_before G.faults parts stops.done stops.rest stops.part stops.split))
+        (subst (λ l. HasOpenCause (counts (G.faults stops.part)) l (open_error (length stops.done) stops.fault)) (sym (back_seen G.faults (opened_faults 0 stops.done owned stops.opened)))
         (cause_of many stops.fault stops.cause)))
-
-    -- the part itself, and those before it
-    part_here : part_at (map G.objects parts) (length stops.done) ≡ G.objects stops.part
-    part_here =
-        ap (λ l. part_at l (length stops.done)) (seen_before G.objects)
-        ∙ ap (λ n. part_at (map G.objects stops.done ++ (G.objects stops.part ∷ map G.objects stops.rest)) n) (sym (length-map stops.done G.objects))
-        ∙ ap option_flatten (at_seam (map G.objects stops.done) (G.objects stops.part) (map G.objects stops.rest))
-
-    part_before : (other : ℕ) → other < length stops.done → part_at (map G.objects parts) other ≡ part_at (map G.objects stops.done) other
-    part_before other within =
-        ap (λ l. part_at l other) (seen_before G.objects)
-        ∙ ap option_flatten (in_front (map G.objects stops.done) (G.objects stops.part ∷ map G.objects stops.rest) other (subst (λ n. other < n) (sym (length-map stops.done G.objects)) within))
 
     bad_of : length parts ≡ shards → (fault : LayoutFault) → OnBadMeta fault (λ path text. IfSome (G.objects stops.part) (λ told. IsFirstBad told (length stops.done) path text))
         → OnBadRecord (open_error (length stops.done) fault) (IsFirstBadPart (map G.objects parts))
     bad_of many (faults.BadMeta path text) bad = record {
       number = length stops.done;
       within = among many;
-      here = subst (λ o. IfSome o (λ told. IsFirstBad told (length stops.done) path text)) (sym part_here) bad;
+      here = subst (λ o. IfSome o (λ told. IsFirstBad told (length stops.done) path text)) (sym (part_here G.objects parts stops.done stops.rest stops.part stops.split)) bad;
       before = λ other within.
-          subst (λ o. IfSome o (λ told. HaveMeaning told other)) (sym (part_before other within))
+          subst (λ o. IfSome o (λ told. HaveMeaning told other)) (sym (part_before G.objects parts stops.done stops.rest stops.part stops.split other within))
           (subst (λ m. IfSome (part_at (map G.objects stops.done) other) (λ told. HaveMeaning told m)) (omega arith) (opened_means 0 stops.done owned stops.opened other));
     }
     bad_of many faults.Failed bad = tt
@@ -245,10 +199,8 @@ closed_tight {S} {G} owned numbered tight number _ = elim (slice_get_cases owned
 
 pub closed_parts : {S : Type 0} {G : Ghosts S} (owned : List (DigestShard S G)) (room parts : List S) → room ≡ [] → parts ≡ map (λ s. s.part) owned ++ room → map G.objects parts ≡ objects_of owned
 closed_parts {S} {G} owned room parts none is =
-    ap (map G.objects) (is ∙ ap (λ l. map (λ (s : DigestShard S G). s.part) owned ++ l) none ∙ append-nil (map (λ (s : DigestShard S G). s.part) owned)) ∙ twice owned where
-      twice : (l : List (DigestShard S G)) → map G.objects (map (λ s. s.part) l) ≡ objects_of l
-      twice [] = refl
-      twice (s ∷ l) = ap (λ m. G.objects s.part ∷ m) (twice l)
+    ap (map G.objects) (is ∙ ap (λ l. map (λ (s : DigestShard S G). s.part) owned ++ l) none ∙ append-nil (map (λ (s : DigestShard S G). s.part) owned))
+    ∙ map-map G.objects (λ (s : DigestShard S G). s.part) owned
 
 pub stopped_room : {S : Type 0} {G : Ghosts S} (dedupe : Bool) (parts : List S) (owned : List (DigestShard S G)) (left : List S) (error : PoolOpenError) → StopsAt dedupe parts owned left error
     → length owned + length left ≡ length parts

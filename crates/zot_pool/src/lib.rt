@@ -22,6 +22,7 @@ pub use crate::pool::Pool;
 pub use crate::pool_error::PoolError;
 pub use crate::pool_open_error::PoolOpenError;
 pub use crate::resolved::Resolved;
+pub use crate::room::{put_first, put_last};
 pub use crate::unopened_pool::UnopenedPool;
 pub use crate::up_error::UpError;
 pub use crate::upstream::Upstream;

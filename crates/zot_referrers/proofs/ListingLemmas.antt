@@ -17,7 +17,7 @@ use Rattle.zot_maps.proofs.Maps.{byte_order}
 use Rattle.zot_media.specs.References.{artifact_type}
 use Rattle.zot_media.specs.Referrers.{Pushed, Referrer, descriptor_value, is_listed, passes, referrer_of, referrers_among}
 use Rattle.zot_media.specs.declared.reading.Reading.{Reading}
-use Rattle.zot_referrers.specs.Listing.{ListsSubjects, all_pushed, found_as, found_in, listed_as, pushed_as, says_of}
+use Rattle.zot_referrers.specs.Listing.{ListsSubjects, all_pushed, found_as, found_in, listed_entry, pushed_as, says_of}
 use Rattle.zot_referrers.proofs.WalkLemmas.{SameFound, has, walks_alike}
 
 -- ---- the list from scratch
@@ -33,17 +33,25 @@ module _ (sizes : List ℕ → Option ℕ) (manifests : ByteMap Kept) (subject :
   chosen true pushed rest = refl
   chosen false pushed rest = refl
 
-  among : (es : List (List ℕ × Kept)) → AllFound byte_order (finite.entries manifests) es
-      → flat_map Found (map (λ e. e.0) es) ≡ map referrer_of (filter (λ pushed. is_listed subject wanted pushed.reading) (map pushed_of es))
-  among [] h = refl
-  among (e ∷ es) h =
-      ap (λ found. found_as sizes subject wanted e.0 found ++ flat_map Found (map (λ x. x.0) es)) (get-entries manifests e.0 ∙ h.0)
-      ∙ ap (λ rest. listed_as subject wanted (pushed_of e) ++ rest) (among es h.1)
+  among : (es : List (List ℕ × Kept)) → flat_map (listed_entry sizes subject wanted) es ≡ map referrer_of (filter (λ pushed. is_listed subject wanted pushed.reading) (map pushed_of es))
+  among [] = refl
+  among (e ∷ es) =
+      ap (λ rest. listed_entry sizes subject wanted e ++ rest) (among es)
       ∙ chosen (is_listed subject wanted e.1.reading) (pushed_of e) (filter (λ pushed. is_listed subject wanted pushed.reading) (map pushed_of es))
 
-  -- a walk over all manifests gives the list from scratch
-  pub from_scratch : flat_map Found (finite.keys manifests) ≡ referrers_among (all_pushed sizes manifests) subject wanted
-  from_scratch = among (finite.entries manifests) (all_found byte_order (finite.entries manifests) (keys_ordered byte_cmp manifests))
+  -- what is made of all entries is the list from scratch
+  pub entries_all : flat_map (listed_entry sizes subject wanted) (finite.entries manifests) ≡ referrers_among (all_pushed sizes manifests) subject wanted
+  entries_all = among (finite.entries manifests)
+
+  by_keys : (es : List (List ℕ × Kept)) → AllFound byte_order (finite.entries manifests) es → flat_map Found (map (λ e. e.0) es) ≡ flat_map (listed_entry sizes subject wanted) es
+  by_keys [] h = refl
+  by_keys (e ∷ es) h =
+      ap (λ found. found_as sizes subject wanted e.0 found ++ flat_map Found (map (λ x. x.0) es)) (get-entries manifests e.0 ∙ h.0)
+      ∙ ap (λ rest. listed_entry sizes subject wanted e ++ rest) (by_keys es h.1)
+
+  -- a walk over all digests gives the list from scratch
+  from_scratch : flat_map Found (finite.keys manifests) ≡ referrers_among (all_pushed sizes manifests) subject wanted
+  from_scratch = by_keys (finite.entries manifests) (all_found byte_order (finite.entries manifests) (keys_ordered byte_cmp manifests)) ∙ entries_all
 
   -- ---- what is listed under the subject
 

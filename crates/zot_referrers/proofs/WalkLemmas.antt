@@ -118,12 +118,12 @@ pub made_more : {R D : Type 0} (makes : R → D) (found : List ℕ → List R) (
 made_more makes found digests digest so_far next is more =
     more ∙ ap (λ xs. xs ++ map makes (found digest)) is ∙ sym (map-append makes (flat_map found digests) (found digest)) ∙ ap (map makes) (sym (walk_more found digests digest))
 
--- what was made of a walk so far, with what is left, is all: also after one digest more
-pub made_next : {R D : Type 0} (makes : R → D) (found : List ℕ → List R) (digest : List ℕ) (rest : List (List ℕ)) (whole so_far next : List D) → whole ≡ so_far ++ map makes (flat_map found (digest ∷ rest))
-    → next ≡ so_far ++ map makes (found digest) → whole ≡ next ++ map makes (flat_map found rest)
-made_next makes found digest rest whole so_far next all more =
-    all ∙ ap (λ xs. so_far ++ xs) (map-append makes (found digest) (flat_map found rest)) ∙ sym (append_assoc so_far (map makes (found digest)) (map makes (flat_map found rest)))
+-- what was made of a walk so far, with what is left, is all: also after one more
+pub made_next : {K R D : Type 0} (makes : R → D) (found : K → List R) (first : K) (rest : List K) (whole so_far next : List D) → whole ≡ so_far ++ map makes (flat_map found (first ∷ rest))
+    → next ≡ so_far ++ map makes (found first) → whole ≡ next ++ map makes (flat_map found rest)
+made_next makes found first rest whole so_far next all more =
+    all ∙ ap (λ xs. so_far ++ xs) (map-append makes (found first) (flat_map found rest)) ∙ sym (append_assoc so_far (map makes (found first)) (map makes (flat_map found rest)))
     ∙ ap (λ xs. xs ++ map makes (flat_map found rest)) (sym more)
 
-pub made_all : {R D : Type 0} (makes : R → D) (found : List ℕ → List R) (whole so_far : List D) → whole ≡ so_far ++ map makes (flat_map found []) → whole ≡ so_far
+pub made_all : {K R D : Type 0} (makes : R → D) (found : K → List R) (whole so_far : List D) → whole ≡ so_far ++ map makes (flat_map found []) → whole ≡ so_far
 made_all makes found whole so_far all = all ∙ append-nil so_far

@@ -24,10 +24,14 @@ all_pushed sizes manifests = map (λ entry. pushed_as entry.0 (unwrap_or (sizes 
 abbrev pub listed_as : List ℕ → Option (List ℕ) → Pushed → List Referrer
 listed_as subject wanted pushed = if is_listed subject wanted pushed.reading then referrer_of pushed ∷ [] else []
 
--- the same of what is kept under a digest
+-- the same of a manifest that is kept under a digest
+abbrev pub listed_entry : (List ℕ → Option ℕ) → List ℕ → Option (List ℕ) → List ℕ × Kept → List Referrer
+listed_entry sizes subject wanted entry = listed_as subject wanted (pushed_as entry.0 (unwrap_or (sizes entry.0) 0) entry.1)
+
+-- the same of what is kept under a digest, if there is something
 abbrev pub found_as : (List ℕ → Option ℕ) → List ℕ → Option (List ℕ) → List ℕ → Option Kept → List Referrer
 found_as sizes subject wanted digest None = []
-found_as sizes subject wanted digest (Some kept) = listed_as subject wanted (pushed_as digest (unwrap_or (sizes digest) 0) kept)
+found_as sizes subject wanted digest (Some kept) = listed_entry sizes subject wanted (digest, kept)
 
 -- the same of the manifests
 abbrev pub found_in : (List ℕ → Option ℕ) → ByteMap Kept → List ℕ → Option (List ℕ) → List ℕ → List Referrer

@@ -4,7 +4,7 @@ ghost use Rattle.serde_json.specs.View.{view};
 ghost use Rattle.zot_media.specs.Referrers.{descriptor_value, referrers_among, referrers_text};
 ghost use Rattle.zot_referrers.specs.Listing.{all_pushed};
 
-use crate::subject_index::add_found;
+use crate::subject_index::add_listed;
 use crate::text::listing_text;
 use serde_json::Value;
 use std::alloc::{AllocError, Global};
@@ -38,16 +38,8 @@ fn descriptors_of_all<H: Held>(
         ≡ map descriptor_value (referrers_among (all_pushed (H.sizes held.now) manifests.now.manifests) subject.now (option_map (λ text. text.now) wanted.entry))) }
 {
     let mut descriptors = Vec::new(alloc);
-    for (digest, _) in manifests.manifests().iter() {
-        add_found(
-            alloc,
-            &mut descriptors,
-            manifests,
-            held,
-            digest,
-            subject,
-            wanted,
-        )?;
+    for (digest, kept) in manifests.manifests().iter() {
+        add_listed(alloc, &mut descriptors, held, digest, kept, subject, wanted)?;
     }
     Ok(descriptors)
 }

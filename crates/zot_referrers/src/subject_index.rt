@@ -6,7 +6,7 @@ ghost use Rattle.serde_json.specs.View.{view};
 ghost use Rattle.zot_digest.specs.ByteMap.{byte_cmp};
 ghost use Rattle.zot_manifests.specs.Index.{Adds, KeepsJust, ListsNone, Removes};
 ghost use Rattle.zot_media.specs.Referrers.{descriptor_value, is_listed, passes, referrers_among, referrers_text};
-ghost use Rattle.zot_referrers.specs.Listing.{ListsSubjects, all_pushed, found_in, listed_as, pushed_as, says_of};
+ghost use Rattle.zot_referrers.specs.Listing.{ListsSubjects, all_pushed, found_in, listed_entry, says_of};
 
 use crate::text::{descriptor, listing_text};
 use serde_json::Value;
@@ -122,8 +122,8 @@ fn descriptors<H: Held>(
     Ok(descriptors)
 }
 
-/// Adds the descriptor of what is kept under a digest, if it says something of the subject and has the artifact type, if one is wanted.
-pub fn add_found<H: Held>(
+// Adds the descriptor of what is kept under a digest, if it says something of the subject and has the artifact type, if one is wanted.
+fn add_found<H: Held>(
     alloc: Global,
     descriptors: &mut Vec<Value>,
     manifests: &Manifests,
@@ -138,24 +138,24 @@ pub fn add_found<H: Held>(
     let Some(kept) = manifests.manifest(digest) else {
         return Ok(());
     };
-    let size = held.size(digest).unwrap_or(0);
-    add_listed(alloc, descriptors, digest, size, kept, subject, wanted)
+    add_listed(alloc, descriptors, held, digest, kept, subject, wanted)
 }
 
-// Adds the descriptor of a manifest, if it says something of the digest and has the artifact type, if one is wanted.
-fn add_listed(
+/// Adds the descriptor of a manifest that is kept under a digest, if it says something of the subject and has the artifact type, if one is wanted.
+pub fn add_listed<H: Held>(
     alloc: Global,
     descriptors: &mut Vec<Value>,
+    held: &H,
     digest: &Digest,
-    size: u64,
     kept: &Kept,
     subject: &Digest,
     wanted: Option<&str>,
 ) -> Result<(), AllocError>
     ensures { OnOk result (map view descriptors.new.items ≡ map view descriptors.old.items
-        ++ map descriptor_value (listed_as subject.now (option_map (λ text. text.now) wanted.entry) (pushed_as digest.now size kept.now))) }
+        ++ map descriptor_value (listed_entry (H.sizes held.now) subject.now (option_map (λ text. text.now) wanted.entry) (digest.now, kept.now))) }
 {
     if is_listed(&kept.reading, subject, wanted) {
+        let size = held.size(digest).unwrap_or(0);
         descriptors.push(descriptor(alloc, digest, size, kept)?)?;
     }
     Ok(())

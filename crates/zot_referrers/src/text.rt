@@ -1,9 +1,9 @@
 //! The text of a list of referrers.
-ghost use Rattle.std.specs.Prelude.{◌≡◌, false, IfOk, OnOk, option_map, string_bytes};
+ghost use Rattle.std.specs.Prelude.{◌≡◌, IfOk, List, OnOk, map, option_map, string_bytes};
 ghost use Rattle.serde_json.specs.Data.{Items, array, no_members, put};
-ghost use Rattle.serde_json.specs.View.{items_view, members_view, view};
-ghost use Rattle.serde_json.specs.Written.{compact_text, items_have_float};
-ghost use Rattle.zot_media.specs.Referrers.{descriptor_value, plain_members, referrer_of, with_annotations, with_each, with_type};
+ghost use Rattle.serde_json.specs.View.{members_view, view};
+ghost use Rattle.serde_json.specs.Written.{compact_text};
+ghost use Rattle.zot_media.specs.Referrers.{Referrer, descriptor_value, plain_members, referrer_of, referrers_value, with_annotations, with_each, with_type};
 ghost use Rattle.zot_referrers.specs.Listing.{listing_value, pushed_as};
 
 use serde_json::{Map, Value, json};
@@ -12,10 +12,9 @@ use zot_digest::Digest;
 use zot_manifests::Kept;
 use zot_media::{Annotation, Media};
 
-/// The text of the list of these descriptors.
+/// The text of the list of these descriptors, where they are those of manifests. It fails only where memory runs out.
 pub fn listing_text(alloc: Global, descriptors: Vec<Value>) -> Result<String, AllocError>
-    requires { items_have_float (items_view descriptors.items) ≡ false }
-    ensures { IfOk result (λ text. string_bytes text ≡ compact_text (listing_value (items_view descriptors.items))) }
+    ensures { (referrers : List Referrer) → map view descriptors.items ≡ map descriptor_value referrers → IfOk result (λ text. string_bytes text ≡ compact_text (referrers_value referrers)) }
 {
     let value = listing_value(alloc, Value::Array(descriptors))?;
     value.to_string(alloc)

@@ -1,5 +1,13 @@
-pub mod ReplyLemmas
-pub mod ReadLemmas
-pub mod ManifestLemmas
 pub mod RowLemmas
-pub mod SubjectLemmas
+pub mod RowStepLemmas
+pub mod StandLemmas
+pub mod TakingLemmas
+pub mod RowTurnLemmas
+pub mod SeatLemmas
+pub mod AskLemmas
+pub mod DriveLemmas
+pub mod DrivesLemmas
+pub mod StepLemmas
+pub mod OpenedLemmas
+pub mod HeldLemmas
+pub mod OpenLemmas

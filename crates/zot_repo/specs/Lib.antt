@@ -1,4 +1,7 @@
-pub mod Refusals
-pub mod Replies
-pub mod Repository
-pub mod Table
+pub mod Rows
+pub mod RowGoing
+pub mod StandProps
+pub mod Seats
+pub mod Shards
+pub mod Answering
+pub mod Opening

@@ -22,8 +22,6 @@ use Rattle.zot_model.specs.declared.reply.Reply.TheVariants.{BlobMade}
 use Rattle.zot_outside.specs.Faults.{HasStoreCause}
 use Rattle.zot_outside.specs.Objects.{Objects, Told}
 use Rattle.zot_outside.specs.declared.stores.store_error.StoreError.{StoreError}
-use Rattle.zot_repo.specs.Replies.{MayGive, made_reply, with_checked as plain_with_checked}
-use Rattle.zot_repo.specs.Repository.{IsOf}
 use Rattle.zot_row.proofs.EndLemmas.{attach_gives, attach_keeps, refused_ends, stay_both}
 use Rattle.zot_row.proofs.PartLemmas.{index_stands, put_others, quiet_others, quiet_stands}
 use Rattle.zot_row.proofs.QuietLemmas.{may_end, memory_fits}
@@ -41,6 +39,8 @@ use Rattle.zot_row.specs.declared.turn.Turn.TheVariants as turns
 use Rattle.zot_table.proofs.SinceLemmas.{blob_since, manifest_agrees, manifest_since, settle_since, upload_since}
 use Rattle.zot_table.proofs.StandingLemmas.{fill_agrees, settle_agrees, uploads_agree}
 use Rattle.zot_table.specs.Changes.{settled, with_checked, with_entry, with_uploads}
+use Rattle.zot_table.specs.Replies.{MayGive, made_reply, with_checked as plain_with_checked}
+use Rattle.zot_table.specs.Repository.{IsOf}
 use Rattle.zot_table.specs.Standing.{Agrees, AreEqual, Holds, Sets, repo_of}
 use Rattle.zot_table.specs.Tables.{RepoTable, index_of}
 

@@ -13,7 +13,6 @@ use Rattle.zot_model.specs.declared.call.Call.{Call}
 use Rattle.zot_model.specs.declared.call.Call.TheVariants as calls
 use Rattle.zot_model.specs.declared.code.Code.TheVariants.{BlobUnknown}
 use Rattle.zot_model.specs.declared.reply.Reply.TheVariants.{Blob, BlobHead}
-use Rattle.zot_repo.specs.Replies.{MayGive}
 use Rattle.zot_row.proofs.EndLemmas.{read_gives, read_keeps}
 use Rattle.zot_row.proofs.QuietLemmas.{quiet_asks, quiet_done}
 use Rattle.zot_row.proofs.ResumeLemmas.{given_resumes, ungiven_resumes}
@@ -25,6 +24,7 @@ use Rattle.zot_row.specs.declared.stage.Stage.TheVariants as stages
 use Rattle.zot_row.specs.declared.turn.Turn.TheVariants as turns
 use Rattle.zot_table.proofs.StandingLemmas.{same_agrees, same_is}
 use Rattle.zot_table.proofs.StepLemmas.{get_none, get_some, head_none, head_some}
+use Rattle.zot_table.specs.Replies.{MayGive}
 use Rattle.zot_table.specs.Standing.{Agrees, AreEqual, Holds, repo_of}
 use Rattle.zot_table.specs.Tables.{RepoTable, size_at}
 

@@ -21,7 +21,6 @@ use Rattle.zot_model.specs.declared.methods.Methods.TheVariants as methods
 use Rattle.zot_model.specs.declared.reply.Reply.{Reply}
 use Rattle.zot_model.specs.declared.reply.Reply.TheVariants.{Deleted, Referrers}
 use Rattle.zot_referrers.specs.Listing.{all_pushed}
-use Rattle.zot_repo.specs.Replies.{MayGive}
 use Rattle.zot_row.proofs.EndLemmas.{detach_gives, detach_keeps, read_gives, read_keeps}
 use Rattle.zot_row.proofs.PartLemmas.{alike_tables, quiet_others, quiet_stands}
 use Rattle.zot_row.proofs.QuietLemmas.{memory_fits, quiet_asks, quiet_done, quiet_want}
@@ -40,6 +39,7 @@ use Rattle.zot_table.proofs.ReadingLemmas.{learned_left, none_left, unread_left}
 use Rattle.zot_table.proofs.StandingLemmas.{learn_agrees, learn_is, same_agrees, same_is}
 use Rattle.zot_table.proofs.StepLemmas.{delete_made, delete_needed, delete_none, referrers_made}
 use Rattle.zot_table.specs.Changes.{learned, without_entry}
+use Rattle.zot_table.specs.Replies.{MayGive}
 use Rattle.zot_table.specs.Standing.{Agrees, AllRead, AreEqual, Holds, Sets, repo_of}
 use Rattle.zot_table.specs.Tables.{RepoTable, is_needed_in, size_at, unread_in}
 

@@ -26,9 +26,6 @@ use Rattle.zot_model.specs.declared.code.Code.TheVariants.{ManifestUnknown, Name
 use Rattle.zot_model.specs.declared.reply.Reply.{Reply}
 use Rattle.zot_model.specs.declared.reply.Reply.TheVariants.{Deleted, Manifest, ManifestHead, Tags}
 use Rattle.zot_outside.specs.Objects.{Objects, Told}
-use Rattle.zot_repo.proofs.ManifestLemmas.{IsShort, checked_of, list_known, list_unknown}
-use Rattle.zot_repo.specs.Refusals.{put_refusal}
-use Rattle.zot_repo.specs.Replies.{MayGive, made_reply, with_checked as plain_with_checked}
 use Rattle.zot_row.proofs.EndLemmas.{read_gives, read_keeps}
 use Rattle.zot_row.proofs.PartLemmas.{put_others, removed_stands}
 use Rattle.zot_row.proofs.QuietLemmas.{may_end, memory_fits, quiet_asks, quiet_done}
@@ -42,9 +39,12 @@ use Rattle.zot_row.specs.declared.stage.Stage.TheVariants as stages
 use Rattle.zot_row.specs.declared.turn.Turn.TheVariants as turns
 use Rattle.zot_table.proofs.IndexLemmas.{pull_alike}
 use Rattle.zot_table.proofs.ManifestLemmas.{pull_agrees, remove_agrees}
+use Rattle.zot_table.proofs.ManifestReplyLemmas.{IsShort, checked_of, list_known, list_unknown}
 use Rattle.zot_table.proofs.StandingLemmas.{same_agrees, same_is}
 use Rattle.zot_table.proofs.StepLemmas.{delete_manifest_made, delete_manifest_none, get_manifest_none, get_manifest_some, head_manifest_none, head_manifest_some, put_made, put_refused}
 use Rattle.zot_table.specs.Changes.{with_pull_of, without_named}
+use Rattle.zot_table.specs.Refusals.{put_refusal}
+use Rattle.zot_table.specs.Replies.{MayGive, made_reply, with_checked as plain_with_checked}
 use Rattle.zot_table.specs.Standing.{Agrees, AreEqual, Holds, repo_of}
 use Rattle.zot_table.specs.Tables.{RepoTable, found_in, has_named, index_of, size_at}
 use Rattle.zot_table.specs.declared.found_entry.FoundEntry.{FoundEntry}

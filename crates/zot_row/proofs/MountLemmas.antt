@@ -23,8 +23,6 @@ use Rattle.zot_model.specs.declared.mount.Mount.{Mount}
 use Rattle.zot_model.specs.declared.reply.Reply.{Reply}
 use Rattle.zot_model.specs.declared.reply.Reply.TheVariants.{BlobMade, Session}
 use Rattle.zot_outside.specs.Objects.{Objects}
-use Rattle.zot_repo.proofs.ReplyLemmas.{begun, not_begun}
-use Rattle.zot_repo.specs.Replies.{MayGive}
 use Rattle.zot_row.proofs.EndLemmas.{in_want, mount_keeps, refused_ends, stay_both, unless_size}
 use Rattle.zot_row.proofs.PartLemmas.{others_then, quiet_others, quiet_stands, stands_then}
 use Rattle.zot_row.proofs.PostLemmas.{post_ends}
@@ -42,10 +40,12 @@ use Rattle.zot_row.specs.declared.stage.Rest.TheVariants as rests
 use Rattle.zot_row.specs.declared.stage.Stage.TheVariants as stages
 use Rattle.zot_row.specs.declared.turn.Turn.{Turn}
 use Rattle.zot_row.specs.declared.turn.Turn.TheVariants as turns
+use Rattle.zot_table.proofs.ReplyLemmas.{begun, not_begun}
 use Rattle.zot_table.proofs.SinceLemmas.{blob_since, forget_since, settle_since}
 use Rattle.zot_table.proofs.StandingLemmas.{fill_agrees, know_agrees, know_is, reserve_agrees, reserve_has_room, reserve_is, same_agrees, same_is, settle_agrees, uploads_agree}
-use Rattle.zot_table.proofs.StepLemmas.{post_unsound}
+use Rattle.zot_table.proofs.ReplyLemmas.{post_unsound}
 use Rattle.zot_table.specs.Changes.{known_as, reserved, settled, with_entry, with_uploads}
+use Rattle.zot_table.specs.Replies.{MayGive}
 use Rattle.zot_table.specs.Standing.{Agrees, AreEqual, Holds, repo_of}
 use Rattle.zot_table.specs.Tables.{RepoTable}
 use Rattle.zot_uploads.specs.declared.upload_error.UploadError.TheVariants as errors

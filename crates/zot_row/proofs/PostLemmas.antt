@@ -12,7 +12,6 @@ use Rattle.zot_model.specs.declared.mount.Mount.{Mount}
 use Rattle.zot_model.specs.declared.reply.Reply.{Reply}
 use Rattle.zot_model.specs.declared.reply.Reply.TheVariants.{BlobMade, Session}
 use Rattle.zot_outside.specs.Objects.{Objects}
-use Rattle.zot_repo.proofs.ReplyLemmas.{begun, not_begun}
 use Rattle.zot_row.proofs.PartLemmas.{quiet_stands, stands_then}
 use Rattle.zot_row.proofs.QuietLemmas.{may_end, quiet_done}
 use Rattle.zot_row.proofs.StartLemmas.{known_want}
@@ -20,8 +19,9 @@ use Rattle.zot_row.specs.Doing.{EndsWith}
 use Rattle.zot_row.specs.Going.{KeepsOthers, KeepsStanding, NeverMounts, Opens, Quietly, Starts}
 use Rattle.zot_row.specs.declared.stage.Attaching.TheVariants as attaching
 use Rattle.zot_row.specs.declared.turn.Turn.TheVariants as turns
+use Rattle.zot_table.proofs.ReplyLemmas.{begun, not_begun}
 use Rattle.zot_table.proofs.StandingLemmas.{know_agrees, uploads_agree}
-use Rattle.zot_table.proofs.StepLemmas.{post_made, post_unsound}
+use Rattle.zot_table.proofs.ReplyLemmas.{post_made, post_unsound}
 use Rattle.zot_table.specs.Changes.{known_as, with_uploads}
 use Rattle.zot_table.specs.Standing.{repo_of}
 use Rattle.zot_table.specs.Tables.{RepoTable}

@@ -15,7 +15,6 @@ use Rattle.zot_model.specs.declared.call.Call.TheVariants as calls
 use Rattle.zot_model.specs.declared.code.Code.TheVariants.{NoMemory, StorageFault}
 use Rattle.zot_model.specs.declared.reply.Reply.{Reply}
 use Rattle.zot_outside.specs.Objects.{Objects}
-use Rattle.zot_repo.specs.Replies.{MayGive}
 use Rattle.zot_row.proofs.PartLemmas.{quiet_others, quiet_stands}
 use Rattle.zot_row.specs.Doing.{Doing}
 use Rattle.zot_row.specs.Going.{HasTurnCause, IsCalm, MountsFirst, NeverMounts, Quietly, Starts, kept_of}
@@ -26,6 +25,7 @@ use Rattle.zot_row.specs.declared.turn.Turn.{Turn}
 use Rattle.zot_row.specs.declared.turn.Turn.TheVariants as turns
 use Rattle.zot_table.proofs.StandingLemmas.{uploads_agree}
 use Rattle.zot_table.specs.Changes.{with_uploads}
+use Rattle.zot_table.specs.Replies.{MayGive}
 use Rattle.zot_table.specs.Standing.{Agrees, Holds, repo_of}
 use Rattle.zot_table.specs.Tables.{RepoTable}
 

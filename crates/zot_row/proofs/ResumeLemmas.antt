@@ -13,7 +13,6 @@ use Rattle.zot_model.specs.declared.call.Call.{Call}
 use Rattle.zot_model.specs.declared.call.Call.TheVariants as calls
 use Rattle.zot_model.specs.declared.reply.Reply.{Reply}
 use Rattle.zot_outside.specs.Objects.{Objects}
-use Rattle.zot_repo.specs.Replies.{MayGive}
 use Rattle.zot_row.proofs.EndLemmas.{counts_stay, ungiven_ends}
 use Rattle.zot_row.proofs.PartLemmas.{quiet_others, quiet_stands}
 use Rattle.zot_row.proofs.QuietLemmas.{fault_fits, may_end, memory_fits}
@@ -29,6 +28,7 @@ use Rattle.zot_row.specs.declared.stage.Stage.TheVariants as stages
 use Rattle.zot_row.specs.declared.turn.Turn.{Turn}
 use Rattle.zot_row.specs.declared.turn.Turn.TheVariants as turns
 use Rattle.zot_table.proofs.StandingLemmas.{same_agrees, same_is}
+use Rattle.zot_table.specs.Replies.{MayGive}
 use Rattle.zot_table.specs.Standing.{Agrees, AreEqual, Holds, repo_of}
 use Rattle.zot_table.specs.Tables.{RepoTable}
 

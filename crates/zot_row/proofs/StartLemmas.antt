@@ -11,7 +11,6 @@ use Rattle.zot_outside.specs.Faults.{HasStoreCause, Rose}
 use Rattle.zot_outside.specs.Objects.{Objects}
 use Rattle.zot_outside.specs.declared.stores.store_error.StoreError.{StoreError}
 use Rattle.zot_outside.specs.declared.stores.store_error.StoreError.TheVariants.{Missing, Failed, NoMemory}
-use Rattle.zot_repo.proofs.ReplyLemmas.{base_given}
 use Rattle.zot_row.proofs.EndLemmas.{in_want, refused_ends}
 use Rattle.zot_row.proofs.PartLemmas.{quiet_stands, stands_then}
 use Rattle.zot_row.proofs.QuietLemmas.{fault_fits, memory_fits, quiet_done, quiet_never}
@@ -23,6 +22,7 @@ use Rattle.zot_row.specs.declared.stage.Attaching.{Attaching}
 use Rattle.zot_row.specs.declared.stage.Stage.TheVariants as stages
 use Rattle.zot_row.specs.declared.turn.Turn.{Turn}
 use Rattle.zot_row.specs.declared.turn.Turn.TheVariants as turns
+use Rattle.zot_table.proofs.ReplyLemmas.{base_given}
 use Rattle.zot_table.proofs.StandingLemmas.{know_agrees, know_is, reserve_agrees, reserve_has_room, reserve_is}
 use Rattle.zot_table.specs.Changes.{known_as, reserved}
 use Rattle.zot_table.specs.Standing.{Agrees, Holds, repo_of}

@@ -7,16 +7,16 @@ use Rattle.zot_model.specs.declared.call.Call.TheVariants as calls
 use Rattle.zot_model.specs.declared.reply.Reply.{Reply}
 use Rattle.zot_model.specs.declared.reply.Reply.TheVariants.{BlobMade, Session}
 use Rattle.zot_model.specs.declared.span.Span.{Span}
-use Rattle.zot_repo.proofs.ReplyLemmas.{finish_refused, patch_made, patch_refused, state_answers, unnamed_finish, unnamed_patch}
-use Rattle.zot_repo.specs.Refusals.{upload_refusal}
-use Rattle.zot_repo.specs.Replies.{found_reply, state_reply}
 use Rattle.zot_row.proofs.QuietLemmas.{quiet_uploads}
 use Rattle.zot_row.specs.Doing.{EndsWith}
 use Rattle.zot_row.specs.Going.{NeverMounts, Quietly}
 use Rattle.zot_row.specs.declared.stage.Attaching.TheVariants as attaching
 use Rattle.zot_row.specs.declared.turn.Turn.TheVariants as turns
-use Rattle.zot_table.proofs.StepLemmas.{whole_made}
+use Rattle.zot_table.proofs.ReplyLemmas.{finish_refused, patch_made, patch_refused, state_answers, unnamed_finish, unnamed_patch}
+use Rattle.zot_table.proofs.ReplyLemmas.{whole_made}
 use Rattle.zot_table.specs.Changes.{with_uploads}
+use Rattle.zot_table.specs.Refusals.{upload_refusal}
+use Rattle.zot_table.specs.Replies.{found_reply, state_reply}
 use Rattle.zot_table.specs.Standing.{Holds, repo_of}
 use Rattle.zot_table.specs.Tables.{RepoTable}
 use Rattle.zot_uploads.specs.Cases.{IsTaken, IsWhole, Refuses, RefusesWhole}

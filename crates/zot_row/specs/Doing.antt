@@ -8,17 +8,13 @@ use Rattle.zot_manifests.specs.declared.checked.Checked.{Checked}
 use Rattle.zot_manifests.specs.declared.kept.Kept.{Kept}
 use Rattle.zot_media.specs.declared.media.Media.{Media}
 use Rattle.zot_media.specs.declared.reference.Reference.{Reference}
-use Rattle.zot_model.specs.declared.call.Call.{Call}
-use Rattle.zot_model.specs.declared.call.Call.TheVariants as calls
-use Rattle.zot_model.specs.declared.reply.Reply.TheVariants as replies
 use Rattle.zot_model.specs.Outcomes.{with_blob}
 use Rattle.zot_model.specs.PlainUploads.{with_sessions}
 use Rattle.zot_model.specs.State.{RepoState, made_known}
 use Rattle.zot_model.specs.Uploads.{without}
-use Rattle.zot_repo.specs.Replies.{MayGive, made_reply, with_checked}
-use Rattle.zot_repo.specs.Repository.{IsOf}
-use Rattle.zot_table.specs.Standing.{AllRead, Holds, repo_of}
-use Rattle.zot_table.specs.Tables.{RepoTable, entry_at, found_in, is_needed_in, is_unread, size_at}
+use Rattle.zot_model.specs.declared.call.Call.{Call}
+use Rattle.zot_model.specs.declared.call.Call.TheVariants as calls
+use Rattle.zot_model.specs.declared.reply.Reply.TheVariants as replies
 use Rattle.zot_row.specs.Stages.{Learns, Mounts}
 use Rattle.zot_row.specs.declared.stage.Attaching.{Attaching}
 use Rattle.zot_row.specs.declared.stage.Attaching.TheVariants as attaching
@@ -26,6 +22,10 @@ use Rattle.zot_row.specs.declared.stage.Learning.{Learning}
 use Rattle.zot_row.specs.declared.stage.Rest.{Rest}
 use Rattle.zot_row.specs.declared.stage.Stage.{Stage}
 use Rattle.zot_row.specs.declared.stage.Stage.TheVariants as stages
+use Rattle.zot_table.specs.Replies.{MayGive, made_reply, with_checked}
+use Rattle.zot_table.specs.Repository.{IsOf}
+use Rattle.zot_table.specs.Standing.{AllRead, Holds, repo_of}
+use Rattle.zot_table.specs.Tables.{RepoTable, entry_at, found_in, is_needed_in, is_unread, size_at}
 
 -- ---- reading
 

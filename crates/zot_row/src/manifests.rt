@@ -1,7 +1,7 @@
 //! GET, HEAD, PUT and DELETE of a manifest.
 ghost use Rattle.std.specs.Prelude.{◌≡◌, IfOk, ℕ, List};
 ghost use Rattle.zot_model.specs.declared.call.Call.TheVariants as calls;
-ghost use Rattle.zot_repo.specs.Refusals.{put_refusal};
+ghost use Rattle.zot_table.specs.Refusals.{put_refusal};
 ghost use Rattle.zot_row.specs.Going.{Quietly, ResumesQuietly, Starts};
 ghost use Rattle.zot_row.specs.declared.stage.Stage.TheVariants as stages;
 ghost use Rattle.zot_row.specs.declared.turn.Turn.TheVariants as turns;

@@ -1,8 +1,5 @@
 //! The further turns of a call on a repository.
-ghost use Rattle.std.specs.Prelude.{◌≡◌};
-ghost use Rattle.zot_model.specs.declared.call.Call.{Call};
-ghost use Rattle.zot_row.specs.Going.{Falls, FitsTurn, GoesOn, HasNextCause, KeepsOthers, KeepsStanding, Resumes};
-ghost use Rattle.zot_row.specs.Stages.{IsFor};
+ghost use Rattle.zot_row.specs.Going.{Resumes};
 
 use crate::blobs::{drop_blob, give_blob};
 use crate::holding::attached;
@@ -21,26 +18,6 @@ use zot_table::Repository;
 ///
 /// STORAGE_FAULT comes only where the part failed in this turn, or the pool answered that a shard did. An answer that no pool gives to what was asked is taken as want of memory.
 pub fn resume<S: Store>(
-    part: &mut S,
-    alloc: Global,
-    name: &RepoName,
-    repo: &mut Repository,
-    stage: Stage,
-    moment: u64,
-    answered: PoolReply,
-) -> Turn
-    ensures answer { GoesOn stage answered moment name.now repo.old (S.faults part.old) result repo.new (S.faults part.new) }
-    ensures stands { KeepsStanding (S.objects part.old) name.now repo.old (S.objects part.new) repo.new }
-    ensures beside { KeepsOthers (S.objects part.old) name.now repo.old (S.objects part.new) }
-    ensures faults { HasNextCause answered result (S.faults part.old) (S.faults part.new) }
-    ensures fits { (call : Call) → IsFor stage call → FitsTurn call result }
-    ensures falls { Falls stage result }
-{
-    go_on(part, alloc, name, repo, stage, moment, answered)
-}
-
-// The same, by what is waited for.
-fn go_on<S: Store>(
     part: &mut S,
     alloc: Global,
     name: &RepoName,

@@ -1,6 +1,5 @@
 //! The first turn of a call on a repository.
-ghost use Rattle.std.specs.Prelude.{◌≡◌};
-ghost use Rattle.zot_row.specs.Going.{Begins, FitsTurn, HasTurnCause, KeepsOthers, KeepsStanding, MountsFirst, Starts};
+ghost use Rattle.zot_row.specs.Going.{Starts};
 
 use crate::blobs::{delete_blob, get_blob, head_blob};
 use crate::lists::{list_referrers, list_tags};
@@ -18,25 +17,6 @@ use zot_table::Repository;
 ///
 /// A request that makes a repository known puts its index and its marker before the pool is asked. STORAGE_FAULT comes only where the part failed, and NO_MEMORY where memory ran out.
 pub fn start<S: Store>(
-    part: &mut S,
-    alloc: Global,
-    name: &RepoName,
-    repo: &mut Repository,
-    call: &Call,
-    moment: u64,
-) -> Turn
-    ensures answer { Begins call.now moment name.now repo.old (S.faults part.old) result repo.new (S.faults part.new) }
-    ensures stands { KeepsStanding (S.objects part.old) name.now repo.old (S.objects part.new) repo.new }
-    ensures beside { KeepsOthers (S.objects part.old) name.now repo.old (S.objects part.new) }
-    ensures faults { HasTurnCause result (S.faults part.old) (S.faults part.new) }
-    ensures fits { FitsTurn call.now result }
-    ensures mount { MountsFirst call.now name.now result }
-{
-    begin(part, alloc, name, repo, call, moment)
-}
-
-// The same, by what is asked.
-fn begin<S: Store>(
     part: &mut S,
     alloc: Global,
     name: &RepoName,

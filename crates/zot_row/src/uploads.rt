@@ -1,8 +1,8 @@
 //! GET, PATCH and the last PUT of an upload, and a new one.
 ghost use Rattle.std.specs.Prelude.{◌≡◌, ℕ, List, Option, None};
 ghost use Rattle.zot_model.specs.declared.call.Call.TheVariants as calls;
-ghost use Rattle.zot_repo.specs.Refusals.{upload_refusal};
-ghost use Rattle.zot_repo.specs.Replies.{state_reply};
+ghost use Rattle.zot_table.specs.Refusals.{upload_refusal};
+ghost use Rattle.zot_table.specs.Replies.{state_reply};
 ghost use Rattle.zot_row.specs.Going.{Quietly, Starts};
 ghost use Rattle.zot_row.specs.declared.turn.Turn.TheVariants as turns;
 

@@ -1,37 +1,33 @@
 -- What a call on one row is for all of them.
-use Rattle.std.proofs.Common.{◌≡◌, ◌≢◌, ◌<◌, ◌≤◌, ◌+◌, ℕ, List, [], ◌∷◌, map, length, get_or, set, Option, Some, None, IfSome, IsSomeAnd, option_map, inl, inr, refl, sym, ap, subst, ◌∙◌}
-use Rattle.std.specs.Prelude.{sum, unwrap_or}
+use Rattle.std.proofs.Common.{◌≡◌, ◌≢◌, ◌<◌, ◌≤◌, ◌+◌, ℕ, List, [], ◌∷◌, map, length, get_or, set, Option, Some, None, IfSome, option_map, inl, inr, refl, sym, ap, subst, ◌∙◌}
+use Rattle.std.specs.Prelude.{slice_index, unwrap_or}
 use Rattle.std.specs.List.{slice_get}
 use Rattle.std.proofs.Math.Seq.{map-set_same}
-use Rattle.std.proofs.lemmas.List.{length-set}
+use Rattle.std.proofs.lemmas.List.{get_or-map, get_or-set_same, length-set}
 use Rattle.std.proofs.lemmas.Option.{slice_get-get_or}
 use mathlib.Core.Logic.{dite}
 use native.Mathlib.Decide.{ℕ_discrete}
 use Rattle.zot_contents.specs.Pool.{Holders}
-use Rattle.zot_contents.specs.declared.shard.DigestShard.{DigestShard}
-use Rattle.zot_core.proofs.StepLemmas.{other_agrees, other_stays}
-use Rattle.zot_core.specs.RowGoing.{IsOwn, OnName}
-use Rattle.zot_core.specs.Rows.{AgreesRow, state_of}
-use Rattle.zot_core.specs.Shards.{IsCounted, KeepsOtherNames, StepsRow}
-use Rattle.zot_core.specs.declared.row_config.RowConfig.{RowConfig}
-use Rattle.zot_core.specs.declared.shard.RepoShard.{RepoShard}
-use Rattle.zot_layout.specs.Rows.{IsOfRow}
+use Rattle.zot_repo.proofs.StepLemmas.{other_agrees, other_stays}
+use Rattle.zot_repo.specs.RowGoing.{IsOwn, OnName}
+use Rattle.zot_repo.specs.Rows.{AgreesRow}
+use Rattle.zot_repo.specs.Shards.{HasShardCause, IsCounted, KeepsOtherNames, StepsRow}
+use Rattle.zot_repo.specs.declared.row_config.RowConfig.{RowConfig}
+use Rattle.zot_repo.specs.declared.shard.RepoShard.{RepoShard}
 use Rattle.zot_model.proofs.HistoryLemmas.{same_itself}
 use Rattle.zot_model.specs.History.{Run, entry_for}
 use Rattle.zot_model.specs.State.{AreSame, RowState, empty_row}
 use Rattle.zot_model.specs.declared.reply.Reply.{Reply}
 use Rattle.zot_model.specs.declared.request.Request.{Request}
-use Rattle.zot_model.specs.declared.row.RowCall.{RowCall}
 use Rattle.zot_model.specs.declared.row.RowCall.TheVariants.{Ask}
 use Rattle.zot_model.specs.declared.row.RowReply.TheVariants as answers
-use Rattle.zot_outside.specs.Faults.{Rose}
 use Rattle.zot_outside.specs.declared.stores.store.Store.{Ghosts}
 use Rattle.zot_pool.proofs.PoolLemmas.{set_at, set_beside}
-use Rattle.zot_pool.specs.Pools.{BothHold, faults_of, holds, objects_of}
+use Rattle.zot_pool.specs.Pools.{BothHold}
 use Rattle.zot_rows.proofs.HistoryLemmas.{each_of_row}
-use Rattle.zot_rows.specs.Histories.{BothTell, EachRuns, EntersRow, RowStates}
+use Rattle.zot_rows.specs.Histories.{BothTell, EntersRow, RowStates}
 use Rattle.zot_rows.specs.Agreed.{AreAgreed, AreRows, IsRow}
-use Rattle.zot_rows.specs.Rows.{HaveCause, row_by, state_beside, states_beside}
+use Rattle.zot_rows.specs.Rows.{HasRowFault, HaveCause, row_by, state_beside, states_beside}
 
 -- ---- options
 
@@ -145,6 +141,21 @@ module _ {S : Type 0} {G : Ghosts S} (config : RowConfig) (rows : List (RepoShar
   pub counts : (pooled later : ℕ) → pooled ≤ later → IsCounted x.failed y.failed pooled later → HaveCause pooled later (map (λ r. r.failed) rows) (map (λ r. r.failed) (set rows number y))
   counts pooled later grew (inl same) = record { later = grew; quiet = λ none. failed_same same }
   counts pooled later grew (inr rose) = record { later = grew; quiet = λ none. absurd (none rose) }
+
+  count_before : slice_index (map (λ r. G.faults r.core.part) rows) number ≡ G.faults x.core.part
+  count_before = get_or-map (λ r. G.faults r.core.part) rows number x 0 within ∙ ap (λ r. G.faults r.core.part) (sym is)
+
+  count_after : slice_index (map (λ r. G.faults r.core.part) (set rows number y)) number ≡ G.faults y.core.part
+  count_after =
+      get_or-map (λ r. G.faults r.core.part) (set rows number y) number x 0 (subst (λ n. number < n) (sym (length-set rows number y)) within)
+      ∙ ap (λ r. G.faults r.core.part) (get_or-set_same rows number y x within)
+
+  -- the fault of a reply is one of the row's part, or of the pool
+  pub faulted : (reply : Reply) (pooled later : ℕ) → HasShardCause reply (G.faults x.core.part) (G.faults y.core.part) pooled later
+      → HasRowFault number reply (map (λ r. G.faults r.core.part) rows) (map (λ r. G.faults r.core.part) (set rows number y)) pooled later
+  faulted reply pooled later h =
+      subst (λ n. HasShardCause reply n (slice_index (map (λ r. G.faults r.core.part) (set rows number y)) number) pooled later) (sym count_before)
+      (subst (λ n. HasShardCause reply (G.faults x.core.part) n pooled later) (sym count_after) h)
 
   -- ---- all rows
 

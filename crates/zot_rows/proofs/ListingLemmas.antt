@@ -30,7 +30,7 @@ use Rattle.zot_pool.specs.declared.pool_error.PoolError.{PoolError}
 use Rattle.zot_pool.specs.declared.pool_error.PoolError.TheVariants as pools
 use Rattle.zot_siphash.specs.Owners as owners
 use Rattle.zot_siphash.specs.SipHash.{siphash}
-use Rattle.zot_core.specs.Opening.{AreAllOf, AreOwn, IsHeldBy}
+use Rattle.zot_repo.specs.Opening.{AreAllOf, AreOwn, IsHeldBy}
 use Rattle.zot_rows.specs.Listing.{AreApart, AreHeldBelow, AreListed, ArePut, AreRead, EachApart, EachHeld, EachOwn, HasListCause, IsBelow, by_row, list_error, lists_of, of_row, row_at, rows_of}
 
 -- ---- one item of a range

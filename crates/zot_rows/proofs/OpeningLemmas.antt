@@ -1,30 +1,27 @@
 -- Rows that are opened part by part.
 use Rattle.std.proofs.Common.{◌≡◌, ℕ, zero, suc, ◌+◌, ◌<◌, arith, List, [], ◌∷◌, ◌++◌, map, length, get_or, Option, Some, None, IfSome, Ok, Err, option_map, refl, sym, ap, subst, ◌∙◌}
 use Rattle.std.specs.Global.{Vec}
-use Rattle.std.specs.Prelude.{slice_index}
 use Rattle.std.specs.List.{All, AllByRecursion, slice_get}
-use Rattle.std.specs.Option.{option_flatten}
-use Rattle.std.proofs.Math.Seq.{get_or-append_seam}
-use Rattle.std.proofs.lemmas.List.{get_or-map, length-append, length-map, map-append}
+use Rattle.std.proofs.lemmas.List.{get_or-map, length-append}
 use Rattle.std.proofs.lemmas.List.Elements.{All-from_recursion}
 use Rattle.std.proofs.lemmas.Option.{slice_get-get_or, slice_get-map}
+use Rattle.std.proofs.lemmas.Simd.{map-map}
 use Rattle.zot_contents.specs.Pool.{Holders}
 use Rattle.zot_contents.specs.declared.holding.Holding.{Holding}
 use Rattle.zot_contents.specs.declared.shard.DigestShard.{DigestShard}
-use Rattle.zot_core.specs.Opening.{AreAllOf, AreOpened, AreOwn, IsOpenedRow}
-use Rattle.zot_core.specs.RowGoing.{IsOwn}
-use Rattle.zot_core.specs.Rows.{AgreesRow, Tables, state_of}
-use Rattle.zot_core.specs.declared.row_config.RowConfig.{RowConfig}
-use Rattle.zot_core.specs.declared.shard.RepoShard.{RepoShard}
 use Rattle.zot_layout.specs.Causes.{HasLayoutCause}
 use Rattle.zot_layout.specs.Rows.{OpensRow}
 use Rattle.zot_layout.specs.declared.layout_error.LayoutError.{LayoutError}
 use Rattle.zot_layout.specs.declared.layout_error.LayoutError.TheVariants as layouts
-use Rattle.zot_outside.specs.Faults.{Rose}
 use Rattle.zot_outside.specs.Objects.{Objects}
 use Rattle.zot_outside.specs.declared.stores.store.Store.{Ghosts}
-use Rattle.zot_pool.proofs.OpeningLemmas.{at_seam, in_front, other_at}
-use Rattle.zot_pool.specs.Pools.{ChangesOnly, part_at}
+use Rattle.zot_pool.proofs.SeamLemmas.{others_stay, part_before, part_here, risen_here, seen_after, seen_before, stops_within}
+use Rattle.zot_pool.specs.Pools.{part_at}
+use Rattle.zot_repo.specs.Opening.{AreAllOf, AreOpened, AreOwn, IsOpenedRow}
+use Rattle.zot_repo.specs.RowGoing.{IsOwn}
+use Rattle.zot_repo.specs.Rows.{AgreesRow, Tables, state_of}
+use Rattle.zot_repo.specs.declared.row_config.RowConfig.{RowConfig}
+use Rattle.zot_repo.specs.declared.shard.RepoShard.{RepoShard}
 use Rattle.zot_rows.specs.Agreed.{AreAgreed, AreRows, IsRow}
 use Rattle.zot_rows.specs.Listing.{EachHeld, EachOwn, lists_of, rows_of}
 use Rattle.zot_rows.specs.Opening.{AllAreWhole, AreOpenedOver, AreOpenedRows, AreWhole, HasRowsCause, IsFirstBadRow, IsOpenedOver, OnBadRow, StopsAtRow, row_error}
@@ -174,36 +171,19 @@ module _ {S : Type 0} {G : Ghosts S} (config : RowConfig) (moment : ℕ) (lists 
     pub stopped_long : length rows + length left ≡ length parts
     stopped_long = omega (arith, rows_long 0 stops.done rows stops.opened, ap length stops.left_is, ap length stops.split, length-append stops.done (stops.part ∷ stops.rest))
 
-    -- a list of what is seen of the parts, before and after
-    seen_before : {X : Type 0} (f : S → X) → map f parts ≡ map f stops.done ++ (f stops.part ∷ map f stops.rest)
-    seen_before f = ap (map f) stops.split ∙ map-append f stops.done (stops.part ∷ stops.rest)
-
-    seen_after : {X : Type 0} (f : S → X) → map (λ (r : RepoShard S G). f r.core.part) rows ≡ map f stops.done → map f (parts_of rows ++ left) ≡ map f stops.done ++ (f stops.back ∷ map f stops.rest)
-    seen_after f same =
-        ap (λ l. map f (parts_of rows ++ l)) stops.left_is ∙ map-append f (parts_of rows) (stops.back ∷ stops.rest)
-        ∙ ap (λ l. l ++ (f stops.back ∷ map f stops.rest)) (twice rows ∙ same) where
-          twice : (l : List (RepoShard S G)) → map f (map (λ r. r.core.part) l) ≡ map (λ r. f r.core.part) l
-          twice [] = refl
-          twice (r ∷ l) = ap (λ m. f r.core.part ∷ m) (twice l)
+    stopped_seen : {X : Type 0} (f : S → X) → map (λ (r : RepoShard S G). f r.core.part) rows ≡ map f stops.done → map f (parts_of rows ++ left) ≡ map f stops.done ++ (f stops.back ∷ map f stops.rest)
+    stopped_seen f = seen_after f (λ (r : RepoShard S G). r.core.part) rows stops.done stops.rest left stops.back stops.left_is
 
     pub stopped_objects : map G.objects (parts_of rows ++ left) ≡ map G.objects parts
     stopped_objects =
-        seen_after G.objects (rows_objects 0 stops.done rows stops.opened)
-        ∙ ap (λ o. map G.objects stops.done ++ (o ∷ map G.objects stops.rest)) stops.objects ∙ sym (seen_before G.objects)
+        stopped_seen G.objects (rows_objects 0 stops.done rows stops.opened)
+        ∙ ap (λ o. map G.objects stops.done ++ (o ∷ map G.objects stops.rest)) stops.objects ∙ sym (seen_before G.objects parts stops.done stops.rest stops.part stops.split)
 
     abbrev counts : ℕ → List ℕ
     counts n = map G.faults stops.done ++ (n ∷ map G.faults stops.rest)
 
-    front_long : length (map G.faults stops.done) ≡ length stops.done
-    front_long = length-map stops.done G.faults
-
-    count_at : (n : ℕ) → slice_index (counts n) (length stops.done) ≡ n
-    count_at n = ap (slice_index (counts n)) (sym front_long) ∙ get_or-append_seam (map G.faults stops.done) n (map G.faults stops.rest) 0
-
     among : length parts ≡ rows_of config.members → length stops.done < rows_of config.members
-    among many =
-        let whole : length (stops.done ++ (stops.part ∷ stops.rest)) ≡ rows_of config.members = ap length (sym stops.split) ∙ many in
-        omega (arith, whole, length-append stops.done (stops.part ∷ stops.rest))
+    among many = subst (λ n. length stops.done < n) many (stops_within parts stops.done stops.rest stops.part stops.split)
 
     cause_of : (shards_old shards_new : List ℕ) → shards_new ≡ shards_old → length parts ≡ rows_of config.members → (fault : LayoutError) → HasLayoutCause {A = Tables} (G.faults stops.part) (G.faults stops.back) (Err fault)
         → HasRowsCause config.members (counts (G.faults stops.part)) (counts (G.faults stops.back)) shards_old shards_new (row_error (length stops.done) fault)
@@ -213,10 +193,8 @@ module _ {S : Type 0} {G : Ghosts S} (config : RowConfig) (moment : ℕ) (lists 
     cause_of old new same many layouts.Failed cause = record {
       rows = record {
         within = among many;
-        here = subst (λ n. Rose n (slice_index (counts (G.faults stops.back)) (length stops.done))) (sym (count_at (G.faults stops.part)))
-            (subst (Rose (G.faults stops.part)) (sym (count_at (G.faults stops.back))) cause.failed);
-        others = subst (λ n. ChangesOnly n (counts (G.faults stops.part)) (counts (G.faults stops.back))) front_long
-            (other_at (map G.faults stops.done) (G.faults stops.part) (G.faults stops.back) (map G.faults stops.rest));
+        here = risen_here G.faults stops.done stops.rest (G.faults stops.part) (G.faults stops.back) cause.failed;
+        others = others_stay G.faults stops.done stops.rest (G.faults stops.part) (G.faults stops.back);
       };
       shards = same;
     }
@@ -226,29 +204,17 @@ module _ {S : Type 0} {G : Ghosts S} (config : RowConfig) (moment : ℕ) (lists 
     stopped_cause old new same many =
         let number = length stops.done in
         subst (HasRowsCause config.members (map G.faults parts) (map G.faults (parts_of rows ++ left)) old new) (sym stops.error_is)
-        (subst (λ l. HasRowsCause config.members l (map G.faults (parts_of rows ++ left)) old new (row_error number stops.fault)) (sym (seen_before G.faults))
-        (subst (λ l. HasRowsCause config.members (counts (G.faults stops.part)) l old new (row_error number stops.fault)) (sym (seen_after G.faults (rows_faults 0 stops.done rows stops.opened)))
+        (subst (λ l. HasRowsCause config.members l (map G.faults (parts_of rows ++ left)) old new (row_error number stops.fault)) (sym (seen_before G.faults parts stops.done stops.rest stops.part stops.split))
+        (subst (λ l. HasRowsCause config.members (counts (G.faults stops.part)) l old new (row_error number stops.fault)) (sym (stopped_seen G.faults (rows_faults 0 stops.done rows stops.opened)))
         (cause_of old new same many stops.fault stops.cause)))
-
-    -- the part itself, and those before it
-    part_here : part_at (map G.objects parts) (length stops.done) ≡ G.objects stops.part
-    part_here =
-        ap (λ l. part_at l (length stops.done)) (seen_before G.objects)
-        ∙ ap (λ n. part_at (map G.objects stops.done ++ (G.objects stops.part ∷ map G.objects stops.rest)) n) (sym (length-map stops.done G.objects))
-        ∙ ap option_flatten (at_seam (map G.objects stops.done) (G.objects stops.part) (map G.objects stops.rest))
-
-    part_before : (other : ℕ) → other < length stops.done → part_at (map G.objects parts) other ≡ part_at (map G.objects stops.done) other
-    part_before other within =
-        ap (λ l. part_at l other) (seen_before G.objects)
-        ∙ ap option_flatten (in_front (map G.objects stops.done) (G.objects stops.part ∷ map G.objects stops.rest) other (subst (λ n. other < n) (sym (length-map stops.done G.objects)) within))
 
     first_bad : length parts ≡ rows_of config.members → IsFirstBadRow config moment (map G.objects parts) stops.fault
     first_bad many = record {
       number = length stops.done;
       within = among many;
-      here = subst (λ o. IfSome o (λ told. OpensRow told (IsOwn config (length stops.done)) moment (Err stops.fault))) (sym part_here) stops.bad;
+      here = subst (λ o. IfSome o (λ told. OpensRow told (IsOwn config (length stops.done)) moment (Err stops.fault))) (sym (part_here G.objects parts stops.done stops.rest stops.part stops.split)) stops.bad;
       before = λ other within.
-          subst (λ o. IfSome o (λ told. AreWhole told moment (IsOwn config other))) (sym (part_before other within))
+          subst (λ o. IfSome o (λ told. AreWhole told moment (IsOwn config other))) (sym (part_before G.objects parts stops.done stops.rest stops.part stops.split other within))
           (subst (λ m. IfSome (part_at (map G.objects stops.done) other) (λ told. AreWhole told moment (IsOwn config m))) (omega arith) (parts_whole 0 stops.done rows stops.opened other));
     }
 
@@ -267,7 +233,4 @@ module _ {S : Type 0} {G : Ghosts S} (config : RowConfig) (moment : ℕ) (lists 
 
 -- what is seen of its parts
 pub closed_parts : {S : Type 0} {G : Ghosts S} {X : Type 0} (f : S → X) (owned : List (DigestShard S G)) (parts : List S) → parts ≡ map (λ s. s.part) owned → map f parts ≡ map (λ s. f s.part) owned
-closed_parts {S} {G} f owned parts is = ap (map f) is ∙ twice owned where
-  twice : (l : List (DigestShard S G)) → map f (map (λ s. s.part) l) ≡ map (λ s. f s.part) l
-  twice [] = refl
-  twice (s ∷ l) = ap (λ m. f s.part ∷ m) (twice l)
+closed_parts {S} {G} f owned parts is = ap (map f) is ∙ map-map f (λ (s : DigestShard S G). s.part) owned

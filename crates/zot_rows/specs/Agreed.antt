@@ -4,11 +4,11 @@ use Rattle.std.specs.Global.{Vec}
 use Rattle.std.specs.List.{All, slice_get}
 use Rattle.std.specs.Vec.{vec_capacity}
 use Rattle.zot_contents.specs.Pool.{Holders}
-use Rattle.zot_core.specs.RowGoing.{IsOwn, StandsForTables}
-use Rattle.zot_core.specs.Rows.{AgreesRow}
-use Rattle.zot_core.specs.declared.row_config.RowConfig.{RowConfig}
-use Rattle.zot_core.specs.declared.shard.RepoShard.{RepoShard}
 use Rattle.zot_outside.specs.declared.stores.store.Store.{Ghosts}
+use Rattle.zot_repo.specs.RowGoing.{IsOwn, StandsForTables}
+use Rattle.zot_repo.specs.Rows.{AgreesRow}
+use Rattle.zot_repo.specs.declared.row_config.RowConfig.{RowConfig}
+use Rattle.zot_repo.specs.declared.shard.RepoShard.{RepoShard}
 
 -- a row has this number and this configuration
 pub record IsRow {S : Type 0} {G : Ghosts S} (config : RowConfig) (number : ℕ) (row : RepoShard S G) : Type 0 where

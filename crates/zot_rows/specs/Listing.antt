@@ -6,7 +6,7 @@ use Rattle.zot_contents.specs.Listing.{place_of}
 use Rattle.zot_contents.specs.Pool.{Holders}
 use Rattle.zot_contents.specs.declared.holding.Holding.{Holding}
 use Rattle.zot_contents.specs.Shards.{shard_of}
-use Rattle.zot_core.specs.Opening.{AreAllOf, AreOwn, IsHeldBy, IsListed}
+use Rattle.zot_repo.specs.Opening.{AreAllOf, AreOwn, IsHeldBy, IsListed}
 use Rattle.zot_digest.specs.Digest.{IsDigest}
 use Rattle.zot_names.specs.Name.{IsName}
 use Rattle.zot_layout.specs.Rows.{IsOfRow}

@@ -2,11 +2,6 @@
 use Rattle.std.specs.Prelude.{◌≡◌, ◌⊎◌, ℕ, ◌+◌, ◌<◌, List, [], ◌∷◌, ◌++◌, length, get_or, Option, Ok, Err, IfSome, slice_index, ⊤}
 use Rattle.zot_contents.specs.Pool.{Holders}
 use Rattle.zot_contents.specs.declared.holding.Holding.{Holding}
-use Rattle.zot_core.specs.Opening.{AreAllOf, IsOpenedRow}
-use Rattle.zot_core.specs.RowGoing.{IsOwn}
-use Rattle.zot_core.specs.Rows.{AgreesRow, Tables, state_of}
-use Rattle.zot_core.specs.declared.row_config.RowConfig.{RowConfig}
-use Rattle.zot_core.specs.declared.shard.RepoShard.{RepoShard}
 use Rattle.zot_layout.specs.Causes.{HasLayoutCause}
 use Rattle.zot_layout.specs.Rows.{Opened, OpensRow}
 use Rattle.zot_layout.specs.declared.layout_error.LayoutError.{LayoutError}
@@ -18,6 +13,11 @@ use Rattle.zot_pool.specs.Opening.{AllHaveMeaning, IsFirstBadPart, RosePart}
 use Rattle.zot_pool.specs.Pools.{ChangesOnly, part_at}
 use Rattle.zot_pool.specs.declared.pool_open_error.PoolOpenError.{PoolOpenError}
 use Rattle.zot_pool.specs.declared.pool_open_error.PoolOpenError.TheVariants as pools
+use Rattle.zot_repo.specs.Opening.{AreAllOf, IsOpenedRow}
+use Rattle.zot_repo.specs.RowGoing.{IsOwn}
+use Rattle.zot_repo.specs.Rows.{AgreesRow, Tables, state_of}
+use Rattle.zot_repo.specs.declared.row_config.RowConfig.{RowConfig}
+use Rattle.zot_repo.specs.declared.shard.RepoShard.{RepoShard}
 use Rattle.zot_rows.specs.Agreed.{IsRow}
 use Rattle.zot_rows.specs.Histories.{RowStates}
 use Rattle.zot_rows.specs.Listing.{EachHeld, rows_of}

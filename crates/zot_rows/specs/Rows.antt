@@ -1,11 +1,13 @@
 -- What the rows of a cluster are to their callers: which row a name has, and the plain rows that they stand for beside what the pool holds.
-use Rattle.std.specs.Prelude.{◌≡◌, ℕ, ◌+◌, ◌≤◌, List, map, sum, Option, IfSome, option_map, unwrap_or}
+use Rattle.std.specs.Prelude.{◌≡◌, ℕ, ◌+◌, ◌≤◌, List, map, sum, Option, IfSome, option_map, slice_index, unwrap_or}
 use Rattle.std.specs.List.{slice_get}
 use Rattle.zot_contents.specs.Pool.{Holders}
-use Rattle.zot_core.specs.Rows.{state_of}
-use Rattle.zot_core.specs.declared.row_config.RowConfig.{RowConfig}
-use Rattle.zot_core.specs.declared.shard.RepoShard.{RepoShard}
+use Rattle.zot_repo.specs.Rows.{state_of}
+use Rattle.zot_repo.specs.Shards.{HasShardCause}
+use Rattle.zot_repo.specs.declared.row_config.RowConfig.{RowConfig}
+use Rattle.zot_repo.specs.declared.shard.RepoShard.{RepoShard}
 use Rattle.zot_model.specs.State.{RowState, empty_row}
+use Rattle.zot_model.specs.declared.reply.Reply.{Reply}
 use Rattle.zot_outside.specs.Faults.{Rose}
 use Rattle.zot_outside.specs.declared.stores.store.Store.{Ghosts}
 use Rattle.zot_pool.specs.Pools.{faults_of, holds, objects_of}
@@ -51,6 +53,14 @@ AreAgreedIn rows = IfSome (holds (objects_of rows.pool.shards.items)) (AreAgreed
 -- how many calls of the pool's parts have failed
 abbrev pub pool_faults : {S : Type 0} {G : Ghosts S} → Rows S G → ℕ
 pool_faults rows = sum (faults_of rows.pool.shards.items)
+
+-- the count of faults of each row's part
+abbrev pub part_faults : {S : Type 0} {G : Ghosts S} → Rows S G → List ℕ
+part_faults {S} {G} rows = map (λ r. G.faults r.core.part) rows.rows.items
+
+-- where the reply is that the storage failed, the count of the part of this row rose, or that of all of the pool's parts; else that of the row's part stayed
+abbrev pub HasRowFault : ℕ → Reply → List ℕ → List ℕ → ℕ → ℕ → Type 0
+HasRowFault number reply parts new pooled later = HasShardCause reply (slice_index parts number) (slice_index new number) pooled later
 
 -- how often each row was answered that a shard failed
 abbrev pub failed_in : {S : Type 0} {G : Ghosts S} → Rows S G → List ℕ

@@ -5,10 +5,10 @@ ghost use Rattle.zot_pool.specs.Opening.{AreTightTrees};
 ghost use Rattle.zot_pool.specs.Pools.{AreTightPool};
 ghost use Rattle.zot_rows.specs.Agreed.{AllStand};
 
-use crate::room::put_first;
 use crate::rows::Rows;
-use zot_core::RepoShard;
 use zot_outside::Store;
+use zot_pool::put_first;
+use zot_repo::RepoShard;
 
 impl<S: Store + Drop> Rows<S> {
     /// Gives the parts back, those of the rows and those of the pool, each in their order. Takes no memory.

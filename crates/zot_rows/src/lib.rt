@@ -5,13 +5,14 @@
 
 mod answering;
 mod closing;
+mod laws;
 mod listing;
 mod opening;
-mod room;
 mod rows;
 mod rows_open_error;
 mod unopened_rows;
 
+pub use crate::laws::rows_own_their_names;
 pub use crate::listing::held_by_rows;
 pub use crate::rows::Rows;
 pub use crate::rows_open_error::RowsOpenError;

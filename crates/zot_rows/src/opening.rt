@@ -12,16 +12,15 @@ ghost use Rattle.zot_rows.specs.Rows.{AreAgreedIn, failed_in, states_beside};
 
 use crate::closing::give_back;
 use crate::listing::held_by_rows;
-use crate::room::{put_first, put_last};
 use crate::rows::Rows;
 use crate::rows_open_error::RowsOpenError;
 use crate::unopened_rows::UnopenedRows;
 use std::alloc::Global;
 use zot_contents::Holding;
-use zot_core::{RepoShard, RowConfig};
 use zot_layout::LayoutError;
 use zot_outside::Store;
-use zot_pool::{Pool, PoolOpenError};
+use zot_pool::{Pool, PoolOpenError, put_first, put_last};
+use zot_repo::{RepoShard, RowConfig};
 
 impl<S: Store + Drop> Rows<S> {
     /// Opens the rows over their parts, of which there are eight a member, and the pool over those of its shards, of which there are sixteen, each in their order, at a moment in seconds. A row's repositories are what its part holds of them, each with the blobs that the pool holds for it, as if these arrived at the moment. No object is changed. The room in which `close` gives the rows' parts back is that in which they were given.

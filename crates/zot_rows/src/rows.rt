@@ -3,9 +3,9 @@ ghost use Rattle.std.proofs.Props.{props};
 ghost use Rattle.zot_rows.specs.Agreed.{AreRows, HasRoom};
 ghost use Rattle.zot_siphash.specs.Owners.{AreMembers};
 
-use zot_core::{RepoShard, RowConfig};
 use zot_outside::Store;
 use zot_pool::Pool;
+use zot_repo::{RepoShard, RowConfig};
 
 /// The rows of a cluster, eight a member, each over its part of the store, and the pool of digests that holds the bytes of their blobs. A repository is in the row of its name.
 #[derive(Drop)]

@@ -14,12 +14,13 @@ use Rattle.zot_media.specs.declared.reading.Reading.{Reading}
 use Rattle.zot_media.specs.declared.reference.Reference.{Reference}
 use Rattle.zot_media.specs.declared.reference.Reference.TheVariants as by
 use Rattle.zot_referrers.specs.Listing.{ListsSubjects, says_of}
-use Rattle.zot_repo.proofs.SubjectLemmas.{subjects_gone}
-use Rattle.zot_repo.specs.Repository.{read_again, rereads, rereads_found}
 use Rattle.zot_table.proofs.KeepingLemmas.{kept_slots, kept_tags, read_fewer, tagged_gone, tagged_pulled, tagged_untagged}
 use Rattle.zot_table.proofs.SlotLemmas.{filled_reserved, unread_read, unread_reserved}
+use Rattle.zot_table.proofs.StandingLemmas.{reread_tags}
+use Rattle.zot_table.proofs.SubjectLemmas.{subjects_gone}
 use Rattle.zot_table.specs.Changes.{read_by, reserved, reserved_by, with_entry}
 use Rattle.zot_table.specs.Keeping.{IsKept, NoneUnread}
+use Rattle.zot_table.specs.Repository.{read_again, rereads, rereads_found}
 use Rattle.zot_table.specs.Tables.{AreTagged, RepoTable, Slots}
 
 module _ (slots : Slots) (table : Table) (sets : Sets (List ℕ)) (listed all_read : Bool) (kept : IsKept slots table sets listed all_read) where
@@ -65,19 +66,13 @@ module _ (slots : Slots) (table : Table) (sets : Sets (List ℕ)) (listed all_re
       split None here = refl
       split (Some before) here = ap is_some (get-insert nat_list_cmp_total table.manifests digest (read_again before bytes) q) ∙ some_there (eq_by_cmp byte_cmp q digest) q before refl here
 
-    same_tags : (rereads table digest bytes).tags ≡ table.tags
-    same_tags = split (finite.get table.manifests digest) where
-      split : (found : Option Kept) → (rereads_found table digest bytes found).tags ≡ table.tags
-      split None = refl
-      split (Some before) = refl
-
     pub kept_learned : (new : Table) (read : Slots) (after : Sets (List ℕ)) → new ≡ rereads table digest bytes → read ≡ read_by slots digest (finite.get slots digest)
         → (ListsSubjects table.manifests sets → ListsSubjects new.manifests after) → IsKept read new after listed all_read
     kept_learned new read after is are lists = record {
       subjects = λ on. lists (kept.subjects on);
       tagged = λ tag stored has.
           ap (λ (t : Table). finite.contains_key t.manifests stored.digest) is ∙ same_there stored.digest
-          ∙ kept.tagged tag stored (ap (λ t. finite.get t tag) (sym same_tags) ∙ ap (λ (t : Table). finite.get t.tags tag) (sym is) ∙ has);
+          ∙ kept.tagged tag stored (ap (λ t. finite.get t tag) (sym (reread_tags table digest bytes)) ∙ ap (λ (t : Table). finite.get t.tags tag) (sym is) ∙ has);
       read = λ on q has.
           unread_read slots read digest table.manifests are (kept.read on) q (sym (same_there q) ∙ ap (λ (t : Table). finite.contains_key t.manifests q) (sym is) ∙ has);
     }

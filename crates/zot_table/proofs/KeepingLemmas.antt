@@ -17,7 +17,7 @@ use Rattle.zot_model.specs.Manifests.{is_tag_of, pulled_at, with_pull, without_t
 use Rattle.zot_model.specs.State.{StoredTag}
 use Rattle.zot_model.specs.Uploads.{UploadTable, no_uploads}
 use Rattle.zot_referrers.specs.Listing.{ListsSubjects}
-use Rattle.zot_repo.proofs.SubjectLemmas.{subjects_none}
+use Rattle.zot_table.proofs.SubjectLemmas.{subjects_none}
 use Rattle.zot_table.specs.Keeping.{IsKept, NoneUnread}
 use Rattle.zot_table.specs.Tables.{AreTagged, RepoTable, Slots, fresh_table}
 

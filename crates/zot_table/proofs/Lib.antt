@@ -12,3 +12,6 @@ pub mod SinceLemmas
 pub mod PutLemmas
 pub mod OpeningLemmas
 pub mod FoundLemmas
+pub mod ReplyLemmas
+pub mod ManifestReplyLemmas
+pub mod SubjectLemmas

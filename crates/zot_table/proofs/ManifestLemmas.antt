@@ -14,12 +14,12 @@ use Rattle.zot_media.specs.declared.reference.Reference.TheVariants as by
 use Rattle.zot_model.specs.Manifests.{Found, manifest_of, without_tags_of}
 use Rattle.zot_model.specs.PlainManifests.{pulled, without_manifest, without_tag}
 use Rattle.zot_model.specs.State.{RepoState, Stored, StoredManifest}
-use Rattle.zot_repo.proofs.ManifestLemmas.{checked_is, named_at, unnamed}
-use Rattle.zot_repo.specs.Replies.{with_checked as plain_with_checked}
-use Rattle.zot_repo.specs.Repository.{IsOf}
 use Rattle.zot_table.proofs.EntryLemmas.{at_each}
+use Rattle.zot_table.proofs.ManifestReplyLemmas.{checked_is, named_at, unnamed}
 use Rattle.zot_table.proofs.StandingLemmas.{bytes_are, read_blobs, read_elsewhere, read_fits, same_kept, says_held, size_is, slots_read, some_held, with_blobs}
 use Rattle.zot_table.specs.Changes.{with_checked, with_pull_of, without_named}
+use Rattle.zot_table.specs.Replies.{with_checked as plain_with_checked}
+use Rattle.zot_table.specs.Repository.{IsOf}
 use Rattle.zot_table.specs.Standing.{Agrees, Holds, IsReadOf, blobs_of, repo_of}
 use Rattle.zot_table.specs.Tables.{RepoTable, entry_at, found_at, found_in, found_with, size_at}
 use Rattle.zot_table.specs.declared.found_entry.FoundEntry.{FoundEntry}

@@ -22,9 +22,9 @@ use Rattle.zot_model.specs.Manifests.{with_tag}
 use Rattle.zot_model.specs.State.{StoredTag}
 use Rattle.zot_model.specs.Uploads.{UploadTable}
 use Rattle.zot_referrers.specs.Listing.{ListsSubjects, says_of}
-use Rattle.zot_repo.proofs.SubjectLemmas.{subjects_put}
 use Rattle.zot_table.proofs.KeepingLemmas.{tagged_put}
 use Rattle.zot_table.proofs.SlotLemmas.{read_here, unread_read}
+use Rattle.zot_table.proofs.SubjectLemmas.{subjects_put}
 use Rattle.zot_table.specs.Changes.{read_by, with_checked}
 use Rattle.zot_table.specs.Keeping.{IsKept, NoneUnread}
 use Rattle.zot_table.specs.Putting.{WasPut, marked_by}

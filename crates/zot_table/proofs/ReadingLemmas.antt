@@ -23,10 +23,10 @@ use Rattle.zot_model.specs.Manifests.{is_needed, is_referred, reading_at, readin
 use Rattle.zot_model.specs.PlainReferrers.{pushed_in, size_at as plain_size}
 use Rattle.zot_model.specs.State.{RepoState, StoredManifest}
 use Rattle.zot_referrers.specs.Listing.{all_pushed, pushed_as}
-use Rattle.zot_repo.specs.Repository.{rereads}
 use Rattle.zot_table.proofs.EntryLemmas.{at_each}
 use Rattle.zot_table.proofs.StandingLemmas.{as_read, get_blob, read_elsewhere, read_here, reread_elsewhere, reread_is, size_held, sizes_are, slots_read}
 use Rattle.zot_table.specs.Changes.{learned}
+use Rattle.zot_table.specs.Repository.{rereads}
 use Rattle.zot_table.specs.Standing.{Agrees, AllRead, FitsEntry, Holds, IsReadOf, as_stored, repo_of, stored_by}
 use Rattle.zot_table.specs.Tables.{RepoTable, entry_at, is_needed_in, is_unread, size_at, unread_in}
 use Rattle.zot_table.specs.declared.blob_entry.BlobEntry.{BlobEntry}

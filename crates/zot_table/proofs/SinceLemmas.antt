@@ -5,11 +5,11 @@ use Rattle.zot_model.specs.Outcomes.{with_blob}
 use Rattle.zot_model.specs.PlainUploads.{with_sessions}
 use Rattle.zot_model.specs.State.{RepoState, made_known}
 use Rattle.zot_model.specs.Uploads.{UploadTable, without}
-use Rattle.zot_repo.specs.Replies.{with_checked as plain_with_checked}
-use Rattle.zot_repo.specs.Repository.{IsOf}
 use Rattle.zot_table.proofs.ManifestLemmas.{put_agrees, put_is}
 use Rattle.zot_table.proofs.StandingLemmas.{fill_agrees, fill_is, settle_is}
 use Rattle.zot_table.specs.Changes.{known_as, settled, with_checked, with_entry, with_uploads}
+use Rattle.zot_table.specs.Replies.{with_checked as plain_with_checked}
+use Rattle.zot_table.specs.Repository.{IsOf}
 use Rattle.zot_table.specs.Standing.{Agrees, Holds, Sets, repo_of}
 use Rattle.zot_table.specs.Tables.{RepoTable}
 

@@ -4,21 +4,20 @@ use Rattle.std.specs.Prelude.{IsSomeAnd, option_and_then, option_map}
 use Rattle.std.specs.FinMap as finite
 use Rattle.std.specs.FinMap.{get-empty}
 use Rattle.zot_digest.specs.ByteMap.{ByteMap, byte_cmp}
-use Rattle.zot_manifests.proofs.TableLemmas.{plain_empty}
+use Rattle.zot_manifests.proofs.TableLemmas.{get_plain, plain_empty, plain_insert}
 use Rattle.zot_manifests.specs.Table.{Table, plain_manifest, plain_manifests}
 use Rattle.zot_manifests.specs.declared.kept.Kept.{Kept}
-use Rattle.zot_maps.proofs.Maps.{byte_order, get_elsewhere, get_here, removed_elsewhere, removed_here, same_by_key, same_map}
+use Rattle.zot_maps.proofs.Maps.{byte_order, get_elsewhere, get_here, insert-same, removed_elsewhere, removed_here, same_by_key, same_map}
 use Rattle.zot_media.specs.Manifest.{stored_reading}
 use Rattle.zot_model.specs.Manifests.{reading_by}
 use Rattle.zot_model.specs.Outcomes.{with_blob}
 use Rattle.zot_model.specs.PlainBlobs.{without_blob}
 use Rattle.zot_model.specs.PlainUploads.{with_sessions}
-use Rattle.zot_model.specs.State.{RepoState, Stored, fresh, made_known}
+use Rattle.zot_model.specs.State.{RepoState, Stored, StoredManifest, fresh, made_known}
 use Rattle.zot_model.specs.Uploads.{UploadTable}
-use Rattle.zot_repo.proofs.ReadLemmas.{put_is}
-use Rattle.zot_repo.specs.Repository.{read_again, repo_of as plain_of, rereads, rereads_found, size_of}
 use Rattle.zot_table.proofs.EntryLemmas.{at_each, get_counterpart}
 use Rattle.zot_table.specs.Changes.{known_as, learned, read_by, reserved, reserved_by, settled, settled_by, with_entry, with_slots, with_uploads, without_entry}
+use Rattle.zot_table.specs.Repository.{plain_of, read_again, rereads, rereads_found, size_of}
 use Rattle.zot_table.specs.Standing.{Agrees, AreEqual, FitsEntry, Holds, IsReadOf, Sets, as_stored, blobs_of, repo_of, stored_by}
 use Rattle.zot_table.specs.Tables.{RepoTable, Slots, entry_at, filled, fresh_table, size_at}
 use Rattle.zot_table.specs.declared.blob_entry.BlobEntry.{BlobEntry}
@@ -255,11 +254,24 @@ module _ (table : Table) (digest bytes : List ℕ) where
   pub reread_elsewhere : (q : List ℕ) → q ≢ digest → finite.get (rereads table digest bytes).manifests q ≡ finite.get table.manifests q
   reread_elsewhere = found_elsewhere (finite.get table.manifests digest)
 
+  found_plain : (found : Option Kept) → finite.get table.manifests digest ≡ found → plain_manifests (rereads_found table digest bytes found).manifests ≡ plain_manifests table.manifests
+  found_plain None none = refl
+  found_plain (Some before) here =
+      plain_insert table.manifests digest (read_again before bytes)
+      ∙ insert-same byte_order (plain_manifests table.manifests) digest (plain_manifest before) (get_plain table.manifests digest ∙ ap (option_map plain_manifest) here)
+
+  found_tags : (found : Option Kept) → (rereads_found table digest bytes found).tags ≡ table.tags
+  found_tags None = refl
+  found_tags (Some before) = refl
+
+  pub reread_tags : (rereads table digest bytes).tags ≡ table.tags
+  reread_tags = found_tags (finite.get table.manifests digest)
+
   -- the plain registry has the same of them
   pub reread_is : (known : Bool) (blobs : ByteMap Stored) (sessions : UploadTable) → plain_of known blobs (rereads table digest bytes) sessions ≡ plain_of known blobs table sessions
   reread_is known blobs sessions =
-      ap (λ (r : RepoState). record { known = known; blobs = blobs; manifests = r.manifests; tags = r.tags; sessions = sessions })
-      (put_is table finite.empty digest bytes true sessions (rereads table digest bytes) (finite.insert finite.empty digest (record { bytes = bytes; arrived = 0 })) 0 refl refl)
+      ap (λ (m : ByteMap StoredManifest). record { known = known; blobs = blobs; manifests = m; tags = (rereads table digest bytes).tags; sessions = sessions }) (found_plain (finite.get table.manifests digest) refl)
+      ∙ ap (λ t. record { known = known; blobs = blobs; manifests = plain_manifests table.manifests; tags = t; sessions = sessions }) reread_tags
 
 module _ (table : RepoTable) (holds : Holds) (digest bytes : List ℕ) where
   pub learn_agrees : Agrees table holds → holds digest ≡ Some bytes → Agrees (learned table digest bytes) holds

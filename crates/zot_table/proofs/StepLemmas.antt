@@ -1,8 +1,7 @@
 -- What is answered by a table is what the plain registry answers.
-use Rattle.std.proofs.Common.{◌≡◌, ◌⊎◌, inl, inr, ℕ, true, false, List, ◌++◌, length, Option, Some, None, is_some, unwrap_or, refl, sym, ap, subst, ◌∙◌}
+use Rattle.std.proofs.Common.{◌≡◌, ◌⊎◌, ℕ, true, false, List, length, Option, Some, None, is_some, unwrap_or, refl, sym, ap, subst, ◌∙◌}
 use Rattle.std.specs.Prelude.{IsSomeAnd, Ok, Err, option_map}
 use Rattle.std.specs.FinMap as finite
-use Rattle.zot_digest.specs.Digest.{IsSound}
 use Rattle.zot_manifests.specs.Check.{check_of}
 use Rattle.zot_manifests.specs.declared.check_error.CheckError.{CheckError}
 use Rattle.zot_manifests.specs.declared.checked.Checked.{Checked}
@@ -10,34 +9,30 @@ use Rattle.zot_media.specs.Referrers.{referrers_text}
 use Rattle.zot_media.specs.declared.media.Media.{Media}
 use Rattle.zot_media.specs.declared.reference.Reference.{Reference}
 use Rattle.zot_media.specs.declared.reference.Reference.TheVariants as by
-use Rattle.zot_model.specs.declared.call.Call.TheVariants as calls
-use Rattle.zot_model.specs.declared.code.Code.TheVariants.{BlobUnknown, DigestInvalid, ManifestUnknown}
-use Rattle.zot_model.specs.declared.methods.Methods.TheVariants as methods
-use Rattle.zot_model.specs.declared.mount.Mount.{Mount}
-use Rattle.zot_model.specs.declared.reply.Reply.{Reply}
-use Rattle.zot_model.specs.declared.reply.Reply.TheVariants.{Blob, BlobHead, BlobMade, Deleted, Manifest, ManifestHead, Referrers}
-use Rattle.zot_model.specs.declared.span.Span.{Span}
 use Rattle.zot_model.specs.Outcomes.{with_blob}
 use Rattle.zot_model.specs.PlainBlobs.{found_or, without_blob}
-use Rattle.zot_model.specs.PlainUploads.{with_sessions, with_upload}
+use Rattle.zot_model.specs.PlainUploads.{with_upload}
 use Rattle.zot_model.specs.Refusals.{not_allowed, refusal}
 use Rattle.zot_model.specs.State.{RepoState, Stored}
-use Rattle.zot_model.specs.Uploads.{bytes_of, with_new, without}
+use Rattle.zot_model.specs.Uploads.{with_new}
+use Rattle.zot_model.specs.declared.call.Call.TheVariants as calls
+use Rattle.zot_model.specs.declared.code.Code.TheVariants.{BlobUnknown, ManifestUnknown}
+use Rattle.zot_model.specs.declared.methods.Methods.TheVariants as methods
+use Rattle.zot_model.specs.declared.reply.Reply.{Reply}
+use Rattle.zot_model.specs.declared.reply.Reply.TheVariants.{Blob, BlobHead, Deleted, Manifest, ManifestHead, Referrers}
 use Rattle.zot_referrers.specs.Listing.{all_pushed}
-use Rattle.zot_repo.proofs.ManifestLemmas as plainly
-use Rattle.zot_repo.proofs.ManifestLemmas.{IsShort, checked_of}
-use Rattle.zot_repo.proofs.ReplyLemmas.{finish_made, get_answers, head_answers, post_answers}
-use Rattle.zot_repo.proofs.SubjectLemmas.{referrers_given}
-use Rattle.zot_repo.specs.Refusals.{put_refusal}
-use Rattle.zot_repo.specs.Replies.{MayGive, made_reply, with_checked as plain_with_checked}
 use Rattle.zot_table.proofs.ManifestLemmas.{found_held, found_none, found_some}
+use Rattle.zot_table.proofs.ManifestReplyLemmas as plainly
+use Rattle.zot_table.proofs.ManifestReplyLemmas.{IsShort, referrers_given}
 use Rattle.zot_table.proofs.ReadingLemmas.{manifest_needed, needed_is, not_needed, pushed_is}
+use Rattle.zot_table.proofs.ReplyLemmas.{get_answers, head_answers}
 use Rattle.zot_table.proofs.StandingLemmas.{bytes_are, clear_agrees, clear_is, none_held, none_stored, size_is, sizes_are}
 use Rattle.zot_table.specs.Changes.{known_as, with_pull_of, with_uploads, without_entry, without_named}
+use Rattle.zot_table.specs.Refusals.{put_refusal}
+use Rattle.zot_table.specs.Replies.{MayGive, made_reply, with_checked as plain_with_checked}
 use Rattle.zot_table.specs.Standing.{Agrees, AllRead, Holds, Sets, repo_of}
 use Rattle.zot_table.specs.Tables.{RepoTable, found_in, has_named, is_needed_in, size_at}
 use Rattle.zot_table.specs.declared.found_entry.FoundEntry.{FoundEntry}
-use Rattle.zot_uploads.specs.Cases.{IsWhole}
 
 -- ---- blobs
 
@@ -61,10 +56,10 @@ module _ (moment : ℕ) (table : RepoTable) (holds : Holds) (agrees : Agrees tab
   head_some size has is = head_answers moment (repo_of table holds) digest reply (is ∙ sym (size_reply (BlobHead digest) (finite.get (repo_of table holds).blobs digest) size (sym (size_is table holds agrees digest) ∙ has)))
 
   pub get_none : size_at table.slots digest ≡ None → reply ≡ refusal BlobUnknown → MayGive moment (repo_of table holds) (calls.GetBlob digest) reply (repo_of table holds)
-  get_none none is = get_answers moment (repo_of table holds) digest reply (inl (is ∙ ap (found_or (λ stored. Blob digest stored.bytes)) (sym (none_stored table holds agrees digest (none_held table holds agrees digest none)))))
+  get_none none is = get_answers moment (repo_of table holds) digest reply (is ∙ ap (found_or (λ stored. Blob digest stored.bytes)) (sym (none_stored table holds agrees digest (none_held table holds agrees digest none))))
 
   pub get_some : (bytes : List ℕ) → holds digest ≡ Some bytes → reply ≡ Blob digest bytes → MayGive moment (repo_of table holds) (calls.GetBlob digest) reply (repo_of table holds)
-  get_some bytes has is = get_answers moment (repo_of table holds) digest reply (inl (is ∙ sym (blob_of (Blob digest) (finite.get (repo_of table holds).blobs digest) bytes (bytes_are table holds agrees digest ∙ has))))
+  get_some bytes has is = get_answers moment (repo_of table holds) digest reply (is ∙ sym (blob_of (Blob digest) (finite.get (repo_of table holds).blobs digest) bytes (bytes_are table holds agrees digest ∙ has)))
 
   pub delete_none : size_at table.slots digest ≡ None → reply ≡ refusal BlobUnknown → MayGive moment (repo_of table holds) (calls.DeleteBlob digest) reply (repo_of table holds)
   delete_none none is = plainly.blob_unknown moment (repo_of table holds) digest reply (none_stored table holds agrees digest (none_held table holds agrees digest none)) is
@@ -92,25 +87,11 @@ module _ (moment : ℕ) (table : RepoTable) (holds : Holds) (agrees : Agrees tab
     clear_agrees table holds after digest agrees (not_needed table digest free) sets,
   )
 
--- a blob whose digest isn't its own, and one that became a blob
-module _ (moment : ℕ) (old : RepoState) (mount : Option Mount) (digest body : List ℕ) (reply : Reply) where
-  pub post_unsound : (¬ IsSound digest body) → reply ≡ refusal DigestInvalid → MayGive moment old (calls.Post mount (Some digest) body) reply old
-  post_unsound unsound is = post_answers moment old old mount digest body reply (inl (unsound, is, refl))
-
-  pub post_made : (new : RepoState) → IsSound digest body → reply ≡ BlobMade digest → new ≡ with_blob moment old digest body → MayGive moment old (calls.Post mount (Some digest) body) reply new
-  post_made new sound is same = post_answers moment old new mount digest body reply (inr (inl (sound, is, same)))
-
 -- ---- uploads
 
 -- a new upload makes a repository known
 pub begin_is : (moment : ℕ) (table : RepoTable) (holds : Holds) → repo_of (with_uploads (known_as true table) (with_new moment table.sessions)) holds ≡ with_upload moment (repo_of table holds)
 begin_is moment table holds = refl
-
--- the last piece of one, whose bytes became a blob
-pub whole_made : (moment : ℕ) (old new : RepoState) (id : ℕ) (range : Option Span) (digest piece bytes : List ℕ) (reply : Reply) → IsWhole (finite.get old.sessions.uploads id) range piece digest
-    → bytes ≡ bytes_of (finite.get old.sessions.uploads id) ++ piece → reply ≡ BlobMade digest → new ≡ with_blob moment (with_sessions old (without old.sessions id)) digest bytes
-    → MayGive moment old (calls.Finish (Some id) range digest piece) reply new
-whole_made moment old new id range digest piece bytes reply whole are is same = finish_made moment old new id range digest piece bytes reply whole are (inl (is, same))
 
 -- ---- manifests
 
@@ -147,9 +128,8 @@ module _ (moment : ℕ) (table : RepoTable) (holds : Holds) (agrees : Agrees tab
   pub put_made : (new : RepoState) (checked : Checked) → (Ok checked ≡ check_of (size_at table.slots) reference media body) ⊎ IsShort (Ok checked) → reply ≡ made_reply checked
       → new ≡ plain_with_checked moment (with_blob moment (repo_of table holds) checked.digest body) checked → MayGive moment (repo_of table holds) (calls.PutManifest reference media body) reply new
   put_made new checked right is same =
-      plainly.put_stored moment (repo_of table holds) new reference media body checked reply
-      (subst (λ sizes. (Ok checked ≡ check_of sizes reference media body) ⊎ IsShort (Ok checked)) (sizes_are table holds agrees) right)
-      (checked_of (size_at table.slots) reference media body checked right).digest (inl (is, same))
+      plainly.put_made moment (repo_of table holds) new reference media body checked reply
+      (subst (λ sizes. (Ok checked ≡ check_of sizes reference media body) ⊎ IsShort (Ok checked)) (sizes_are table holds agrees) right) is same
 
 module _ (moment : ℕ) (table : RepoTable) (holds : Holds) where
   pub delete_manifest_none : (reference : Reference) (reply : Reply) → has_named table reference ≡ false → reply ≡ refusal ManifestUnknown → MayGive moment (repo_of table holds) (calls.DeleteManifest reference) reply (repo_of table holds)

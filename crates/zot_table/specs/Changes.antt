@@ -6,7 +6,7 @@ use Rattle.zot_manifests.specs.declared.checked.Checked.{Checked}
 use Rattle.zot_media.specs.declared.reference.Reference.{Reference}
 use Rattle.zot_media.specs.declared.reference.Reference.TheVariants as by
 use Rattle.zot_model.specs.Uploads.{UploadTable}
-use Rattle.zot_repo.specs.Repository.{rereads}
+use Rattle.zot_table.specs.Repository.{rereads}
 use Rattle.zot_table.specs.Tables.{RepoTable, Slots}
 use Rattle.zot_table.specs.declared.blob_entry.BlobEntry.{BlobEntry}
 

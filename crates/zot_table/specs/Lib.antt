@@ -5,3 +5,6 @@ pub mod Keeping
 pub mod Leaving
 pub mod Putting
 pub mod Opening
+pub mod Refusals
+pub mod Replies
+pub mod Repository

@@ -4,7 +4,7 @@ ghost use Rattle.std.specs.List.{filter};
 ghost use Rattle.std.specs.List.Sorted.{IsStrictlySortedBy};
 ghost use Rattle.zot_digest.specs.ByteMap.{byte_cmp};
 ghost use Rattle.zot_referrers.specs.Listing.{ListsSubjects};
-ghost use Rattle.zot_repo.specs.Repository.{rereads};
+ghost use Rattle.zot_table.specs.Repository.{rereads};
 ghost use Rattle.zot_table.specs.Changes.{learned};
 ghost use Rattle.zot_table.specs.Tables.{entry_at, is_unread, unread_in};
 

@@ -1,8 +1,8 @@
 use Rattle.std.proofs.Common.{◌≡◌, ◌<◌, ◌+◌, [], ◌∷◌, ◌++◌, IfSome, Err, suc, arith, drop, length, take, sym, subst, ap, ◌∙◌}
 use Rattle.std.proofs.lemmas.List.{length-take-le}
-use Rattle.zot_core.specs.Opening.{AreAllOf, IsOpenedRow}
-use Rattle.zot_core.specs.RowGoing.{IsOwn}
-use Rattle.zot_core.specs.Rows.{AgreesRow, state_of}
+use Rattle.zot_repo.specs.Opening.{AreAllOf, IsOpenedRow}
+use Rattle.zot_repo.specs.RowGoing.{IsOwn}
+use Rattle.zot_repo.specs.Rows.{AgreesRow, state_of}
 use Rattle.zot_contents.specs.Pool.{Holders}
 use Rattle.zot_layout.specs.Rows.{OpensRow}
 use Rattle.zot_pool.proofs.OpeningLemmas.{first_left, one_taken, split_at}

@@ -1,5 +1,5 @@
 use Rattle.std.proofs.Common.{None}
-use Rattle.zot_repo.proofs.SubjectLemmas.{subjects_after}
+use Rattle.zot_table.proofs.SubjectLemmas.{subjects_after}
 use Rattle.zot_table.proofs.reading.reread.Goals as goal
 
 pub returns-clause-lists : goal.returns-clause-lists

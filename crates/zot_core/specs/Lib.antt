@@ -1,6 +1,0 @@
-pub mod Rows
-pub mod RowGoing
-pub mod StandProps
-pub mod Shards
-pub mod Answering
-pub mod Opening
