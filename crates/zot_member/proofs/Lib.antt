@@ -1,3 +1,1 @@
-mod FitLemmas
-mod MakesLemmas
-mod PlaceLemmas
+mod AskLemmas

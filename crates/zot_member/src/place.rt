@@ -1,9 +1,7 @@
 //! Where a request stands to a member.
-ghost use Rattle.std.specs.Prelude.{◌≡◌};
-ghost use Rattle.zot_member.specs.Places.{is_foreign};
 
 /// Where a request that came to a member is answered.
-#[derive(Clone, Copy, Debug, PartialEq, Eq)]
+#[derive(Clone, Copy, Debug)]
 pub enum Place {
     /// It asks for the base route, and is on no repository.
     Base,
@@ -13,16 +11,4 @@ pub enum Place {
     Refused,
     /// The member with this number owns the repository, and is to be asked.
     Foreign(u32),
-}
-
-impl Place {
-    /// Whether another member is to be asked.
-    pub fn is_foreign(self) -> bool
-        ensures { result ≡ is_foreign self }
-    {
-        match self {
-            Place::Base | Place::Own | Place::Refused => false,
-            Place::Foreign(_) => true,
-        }
-    }
 }

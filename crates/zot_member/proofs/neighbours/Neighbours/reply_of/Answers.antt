@@ -1,6 +1,6 @@
 use Rattle.std.proofs.Common.{true, subst}
 use Rattle.zot_spell.specs.Wire.{with_hop}
-use Rattle.zot_member.proofs.MakesLemmas.{handed}
+use Rattle.zot_member.proofs.AskLemmas.{handed}
 use Rattle.zot_member.specs.Neighbours.{GivesAt}
 use Rattle.zot_member.specs.declared.place.Place.{Place}
 use Rattle.zot_member.proofs.neighbours.Neighbours.reply_of.Goals as goal
