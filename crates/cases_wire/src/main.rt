@@ -1,8 +1,9 @@
-//! Cases of the wire: requests and replies read, and spelled again, and members in memory.
+//! Cases of the wire: requests and replies read, and spelled again, members in memory, and members that ask each other.
 //!
 //! A case as `split-no-fields: split HTTP/1.1 204 No Content|| => (204, 0)` makes the calls `split_reply` and `join_head`.
 #![tactic(auto)]
 
+mod members;
 mod peers;
 mod replies;
 mod requests;
@@ -20,6 +21,9 @@ fn call(case: &Case, answer: &mut Answer) {
         "request" => requests::request(answer, case.given),
         "long" => requests::long(answer, case.given),
         "peer" => peers::peer(answer, case.given),
+        "members" => members::members(answer, case.given),
+        "through" => members::through(answer, case.given),
+        "asking" => members::asking(answer, case.given),
         "reply" => replies::reply(answer, case.given),
         "made" => replies::made(answer, case.given),
         "split" => replies::split(answer, case.given),

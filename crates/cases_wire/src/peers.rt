@@ -35,8 +35,8 @@ pub fn peer(answer: &mut Answer, given: &str) {
     answer.confirm(peer.asked().len() == 3, "not all was kept");
 }
 
-// Members that fail the asks of these numbers, and give these replies.
-fn peer_of(answer: &Answer, numbers: &str, replies: &str) -> Result<MemoryPeer, AllocError> {
+/// Members that fail the asks of these numbers, and give these replies.
+pub fn peer_of(answer: &Answer, numbers: &str, replies: &str) -> Result<MemoryPeer, AllocError> {
     let alloc = answer.alloc();
     let mut failing = Vec::new(alloc);
     for word in numbers.split(' ') {

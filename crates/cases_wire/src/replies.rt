@@ -70,8 +70,8 @@ fn decline(answer: &mut Answer, reply: &Reply)
     }
 }
 
-// The bytes of a reply, which begin with its head.
-fn spell(
+/// The bytes of a reply, which begin with its head.
+pub fn spell(
     answer: &mut Answer,
     request: &Request,
     reply: &Reply,
