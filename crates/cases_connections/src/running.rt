@@ -54,9 +54,7 @@ pub fn run_pipe(alloc: Global, input: &[u8], piece: usize, failing: Failing) -> 
 }
 
 // A host in memory without files, parts and upstreams.
-fn host_of(
-    alloc: Global,
-) -> Result<MemoryHost<MemoryStore, MemoryUpstream, OpenGate>, AllocError> {
+fn host_of(alloc: Global) -> Result<MemoryHost<MemoryStore, MemoryUpstream, OpenGate>, AllocError> {
     MemoryHost::new(
         alloc,
         Vec::new(alloc),
