@@ -10,7 +10,7 @@ use Rattle.zot_outside.specs.Moments.{IsAt}
 use Rattle.zot_outside.specs.declared.stores.store.Store.{Ghosts}
 use Rattle.zot_pool.specs.Pools.{AreDeduped, AreTightPool, ChangesOnly}
 use Rattle.zot_rows.specs.Histories.{BothTell, EntersRow}
-use Rattle.zot_rows.specs.Rows.{AreAgreedIn, HasRowFault, HaveCause, failed_in, part_faults, pool_faults, row_for, states_of}
+use Rattle.zot_rows.specs.Rows.{AreAgreedIn, HasRowFault, HaveCause, failed_in, opened_in, part_faults, pool_faults, row_for, states_of}
 use Rattle.zot_rows.specs.declared.rows.Rows.{Rows}
 use Rattle.zot_member.specs.declared.place.Place.{Place}
 use Rattle.zot_member.specs.declared.place.Place.TheVariants as places
@@ -29,6 +29,7 @@ pub record AnswersIn {S : Type 0} {G : Ghosts S} (old : Rows S G) (told : Option
   pub fault : OnNamed request (λ name. HasRowFault (row_for old name) reply (part_faults old) (part_faults new) (pool_faults old) (pool_faults new))
   pub beside : OnNamed request (λ name. ChangesOnly (row_for old name) old.rows.items new.rows.items)
   pub config : new.config ≡ old.config
+  pub opened : opened_in new ≡ opened_in old
   pub tight : AreDeduped old.pool.shards.items → AreTightPool old.pool.shards.items → AreTightPool new.pool.shards.items
   pub dedupe : AreDeduped old.pool.shards.items → AreDeduped new.pool.shards.items
 

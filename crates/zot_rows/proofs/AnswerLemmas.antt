@@ -138,6 +138,9 @@ module _ {S : Type 0} {G : Ghosts S} (config : RowConfig) (rows : List (RepoShar
   failed_same : y.failed ≡ x.failed → map (λ r. r.failed) (set rows number y) ≡ map (λ r. r.failed) rows
   failed_same same = map-set_same (λ r. r.failed) rows number y x (same ∙ ap (λ r. r.failed) is)
 
+  pub opened_same : y.core.opened ≡ x.core.opened → map (λ r. r.core.opened) (set rows number y) ≡ map (λ r. r.core.opened) rows
+  opened_same same = map-set_same (λ r. r.core.opened) rows number y x (same ∙ ap (λ r. r.core.opened) is)
+
   pub counts : (pooled later : ℕ) → pooled ≤ later → IsCounted x.failed y.failed pooled later → HaveCause pooled later (map (λ r. r.failed) rows) (map (λ r. r.failed) (set rows number y))
   counts pooled later grew (inl same) = record { later = grew; quiet = λ none. failed_same same }
   counts pooled later grew (inr rose) = record { later = grew; quiet = λ none. absurd (none rose) }

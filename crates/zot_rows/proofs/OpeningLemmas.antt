@@ -94,6 +94,14 @@ module _ {S : Type 0} {G : Ghosts S} (config : RowConfig) (moment : ℕ) (lists 
     each n (p ∷ parts) [] h = absurd h
     each n (p ∷ parts) (r ∷ rows) h = (h.0.failed, each (n + 1) parts rows h.1)
 
+  pub rows_opened : (n : ℕ) (parts : List S) (rows : List (RepoShard S G)) → Over n parts rows → All (λ one. one ≡ moment) (map (λ r. r.core.opened) rows)
+  rows_opened n parts rows h = All-from_recursion (λ one. one ≡ moment) (map (λ r. r.core.opened) rows) (each n parts rows h) where
+    each : (n : ℕ) (parts : List S) (rows : List (RepoShard S G)) → Over n parts rows → AllByRecursion (λ one. one ≡ moment) (map (λ r. r.core.opened) rows)
+    each n [] [] h = tt
+    each n [] (r ∷ rows) h = absurd h
+    each n (p ∷ parts) [] h = absurd h
+    each n (p ∷ parts) (r ∷ rows) h = (h.0.opened, each (n + 1) parts rows h.1)
+
   row_at_place : (n : ℕ) (parts : List S) (rows : List (RepoShard S G)) → Over n parts rows → (k : ℕ) → IfSome (slice_get rows k) (IsRow config (n + k))
   row_at_place n [] [] h k = tt
   row_at_place n [] (r ∷ rows) h k = absurd h

@@ -113,6 +113,7 @@ pub record IsOpenedOver {S : Type 0} {G : Ghosts S} (config : RowConfig) (moment
   pub faults : G.faults row.core.part ≡ G.faults part
   pub is : IsRow config number row
   pub failed : row.failed ≡ 0
+  pub opened : row.core.opened ≡ moment
   pub whole : IfSome (G.objects part) (λ told. AreWhole told moment (IsOwn config number))
   pub agrees : (held : Holders) → AreAllOf (IsOwn config number) held (get_or lists number []) → AgreesRow (IsOwn config number) row.core.repos held
   pub state : IfSome (G.objects part) (λ told. (held : Holders) → AreAllOf (IsOwn config number) held (get_or lists number []) → IsOpenedRow told moment (IsOwn config number) held (state_of row.core.repos held 0))

@@ -1,6 +1,6 @@
 -- What the rows of a cluster are to their callers: which row a name has, and the plain rows that they stand for beside what the pool holds.
 use Rattle.std.specs.Prelude.{◌≡◌, ℕ, ◌+◌, ◌≤◌, List, map, sum, Option, IfSome, option_map, slice_index, unwrap_or}
-use Rattle.std.specs.List.{slice_get}
+use Rattle.std.specs.List.{All, slice_get}
 use Rattle.zot_contents.specs.Pool.{Holders}
 use Rattle.zot_repo.specs.Rows.{state_of}
 use Rattle.zot_repo.specs.Shards.{HasShardCause}
@@ -70,3 +70,13 @@ failed_in rows = map (λ r. r.failed) rows.rows.items
 pub record HaveCause (before after : ℕ) (failed fails : List ℕ) : Type 0 where
   pub later : before ≤ after
   pub quiet : ¬ Rose before after → fails ≡ failed
+
+-- ---- the opening
+
+-- the moment at which each row was opened
+abbrev pub opened_in : {S : Type 0} {G : Ghosts S} → Rows S G → List ℕ
+opened_in rows = map (λ r. r.core.opened) rows.rows.items
+
+-- all rows were opened at this moment
+abbrev pub AreOpenedAt : {S : Type 0} {G : Ghosts S} → ℕ → Rows S G → Type 0
+AreOpenedAt moment rows = All (λ one. one ≡ moment) (opened_in rows)

@@ -6,7 +6,7 @@ ghost use Rattle.zot_model.specs.declared.row.RowCall.TheVariants.{Ask};
 ghost use Rattle.zot_model.specs.declared.row.RowReply.TheVariants as answers;
 ghost use Rattle.zot_pool.specs.Pools.{AreDeduped, AreTightPool, BothHold, ChangesOnly, holds, objects_of};
 ghost use Rattle.zot_rows.specs.Histories.{BothTell, EntersRow};
-ghost use Rattle.zot_rows.specs.Rows.{AreAgreedIn, HasRowFault, HaveCause, failed_in, part_faults, pool_faults, row_for, states_of};
+ghost use Rattle.zot_rows.specs.Rows.{AreAgreedIn, HasRowFault, HaveCause, failed_in, opened_in, part_faults, pool_faults, row_for, states_of};
 ghost use Rattle.zot_rows.specs.Seats.{EntersByOwners};
 
 use crate::rows::Rows;
@@ -37,6 +37,7 @@ impl<S: Store> Rows<S> {
         ensures beside { IfSome request.now.name (λ name. ChangesOnly (row_for self.old name) self.old.rows.items self.new.rows.items) }
         ensures fits { IsFitting (Ask request.now) (answers.Reply result) }
         ensures config { self.new.config ≡ self.old.config }
+        ensures opened { opened_in self.new ≡ opened_in self.old }
         ensures tight { AreDeduped self.old.pool.shards.items → AreTightPool self.old.pool.shards.items → AreTightPool self.new.pool.shards.items }
         ensures dedupe { AreDeduped self.old.pool.shards.items → AreDeduped self.new.pool.shards.items }
     {

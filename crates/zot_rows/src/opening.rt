@@ -8,7 +8,7 @@ ghost use Rattle.zot_pool.specs.Pools.{AreDeduped, AreTightPool, faults_of, hold
 ghost use Rattle.zot_siphash.specs.Owners.{AreMembers};
 ghost use Rattle.zot_rows.specs.Listing.{EachOwn, lists_of, rows_of};
 ghost use Rattle.zot_rows.specs.Opening.{AllAreWhole, AreAllOpened, AreOpenedOver, AreOpenedRows, HasRowsCause, IsFirstBadRow, OnBadRow, RefusesObject, StopsAtRow, pool_error, row_error};
-ghost use Rattle.zot_rows.specs.Rows.{AreAgreedIn, failed_in, states_beside};
+ghost use Rattle.zot_rows.specs.Rows.{AreAgreedIn, AreOpenedAt, failed_in, states_beside};
 
 use crate::closing::give_back;
 use crate::listing::held_by_rows;
@@ -40,6 +40,7 @@ impl<S: Store + Drop> Rows<S> {
         ensures config { IfOk result (λ rows. rows.config ≡ config) }
         ensures agreed { IfOk result AreAgreedIn }
         ensures failed { IfOk result (λ rows. All (λ count. count ≡ 0) (failed_in rows)) }
+        ensures opened { IfOk result (AreOpenedAt moment) }
         ensures state { IfOk result (λ rows. IfSome (holds (each S.objects shards.items)) (λ held. AreOpenedRows config moment (each S.objects parts.items) held (states_beside held rows.rows.items))) }
         ensures objects { IfOk result (λ rows. each (λ r. S.objects r.core.part) rows.rows.items ≡ each S.objects parts.items) }
         ensures pooled { IfOk result (λ rows. objects_of rows.pool.shards.items ≡ each S.objects shards.items) }

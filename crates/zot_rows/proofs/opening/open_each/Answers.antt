@@ -67,6 +67,7 @@ loop-row-preserved g c =
       faults = c.in-Ok.ensures.quiet;
       is = record { number_is = c.in-Ok.ensures.row; config_is = c.in-Ok.ensures.config };
       failed = c.in-Ok.ensures.failed;
+      opened = c.in-Ok.ensures.opened;
       whole = opened_whole (g.S.Store.objects c.remove-part.result) (IsOwn config k) moment c.remove-held.result.items c.in-Ok.opened.core.repos c.in-Ok.ensures.tables;
       agrees = subst (λ l. (holders : Holders) → AreAllOf (IsOwn config k) holders l → AgreesRow (IsOwn config k) c.in-Ok.opened.core.repos holders) (sym own) c.in-Ok.ensures.agrees;
       state = subst (λ l. IfSome (g.S.Store.objects c.remove-part.result) (λ told. (holders : Holders) → AreAllOf (IsOwn config k) holders l

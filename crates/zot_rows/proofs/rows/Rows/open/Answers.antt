@@ -1,6 +1,6 @@
 use Rattle.std.proofs.Common.{arith, IfSome, map as each, sym, subst, ◌∙◌}
 use Rattle.zot_pool.specs.Pools.{holds, objects_of}
-use Rattle.zot_rows.proofs.OpeningLemmas.{closed_parts, rows_agreed, rows_failed, rows_faults, rows_numbered, rows_objects, rows_state, rows_whole}
+use Rattle.zot_rows.proofs.OpeningLemmas.{closed_parts, rows_agreed, rows_failed, rows_faults, rows_numbered, rows_objects, rows_opened, rows_state, rows_whole}
 use Rattle.zot_rows.specs.Agreed.{AreAgreed}
 use Rattle.zot_rows.specs.Opening.{AreOpenedRows, HasRowsCause}
 use Rattle.zot_rows.specs.Rows.{states_beside}
@@ -25,6 +25,11 @@ pub returns-in-Ok-open_rows-clause-failed : goal.returns-in-Ok-open_rows-clause-
 returns-in-Ok-open_rows-clause-failed g c =
     let all = c.in-Ok-open_rows.ensures.opened in
     rows_failed c.args.config c.args.moment all.lists 0 c.args.parts.items c.in-Ok-open_rows.rows.items all.opened
+
+pub returns-in-Ok-open_rows-clause-opened : goal.returns-in-Ok-open_rows-clause-opened
+returns-in-Ok-open_rows-clause-opened g c =
+    let all = c.in-Ok-open_rows.ensures.opened in
+    rows_opened c.args.config c.args.moment all.lists 0 c.args.parts.items c.in-Ok-open_rows.rows.items all.opened
 
 pub returns-in-Ok-open_rows-clause-state : goal.returns-in-Ok-open_rows-clause-state
 returns-in-Ok-open_rows-clause-state g c =

@@ -3,7 +3,7 @@ use Rattle.std.specs.Prelude.{IfSome, sum}
 use Rattle.zot_repo.specs.RowGoing.{IsOwn}
 use Rattle.zot_pool.specs.Pools.{ChangesOnly, faults_of, holds, objects_of}
 use Rattle.zot_pool.proofs.PoolLemmas.{set_beside}
-use Rattle.zot_rows.proofs.AnswerLemmas.{agreed_then, answered, counts, faulted, still_rows}
+use Rattle.zot_rows.proofs.AnswerLemmas.{agreed_then, answered, counts, faulted, opened_same, still_rows}
 use Rattle.zot_rows.proofs.SeatLemmas.{owners_enter}
 use Rattle.zot_rows.specs.Rows.{HasRowFault, row_by}
 use Rattle.zot_siphash.specs.SipHash.{siphash}
@@ -49,6 +49,15 @@ returns-clause-cause g c =
     let within = subst (λ n. n < length rows) here (subst (λ m. row_by self.config name < m) (sym self.numbered.many) (c.owners_and_rows.ensures.rows (siphash self.config.key name) self.config.members self.members.0)) in
     counts self.config rows c.row_of-number.result c.index_mut-row.result.now c.reply_to.new.self within c.index_mut-row.ensures.value self.numbered c.reply_to.ensures.row c.reply_to.ensures.config
     (sum (faults_of self.pool.shards.items)) (sum (faults_of c.reply_to.new.pool.shards.items)) c.reply_to.ensures.later c.reply_to.ensures.counted
+
+pub returns-clause-opened : goal.returns-clause-opened
+returns-clause-opened g c =
+    let self = c.args.self.now in
+    let rows = self.rows.items in
+    let name = c.in-Some.name in
+    let here = ap (row_by self.config) (sym c.as_slice.ensures.value) ∙ sym c.row_of-number.ensures in
+    let within = subst (λ n. n < length rows) here (subst (λ m. row_by self.config name < m) (sym self.numbered.many) (c.owners_and_rows.ensures.rows (siphash self.config.key name) self.config.members self.members.0)) in
+    opened_same self.config rows c.row_of-number.result c.index_mut-row.result.now c.reply_to.new.self within c.index_mut-row.ensures.value self.numbered c.reply_to.ensures.row c.reply_to.ensures.config c.reply_to.ensures.opened
 
 pub returns-clause-seats : goal.returns-clause-seats
 returns-clause-seats g c =
