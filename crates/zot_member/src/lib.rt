@@ -12,6 +12,5 @@ mod place;
 mod process;
 
 pub use crate::member::Member;
-pub use crate::neighbours::Neighbours;
 pub use crate::place::Place;
 pub use crate::process::answer_at;

@@ -16,7 +16,7 @@ use zot_rows::Rows;
 
 /// The members of one process, over the rows of all of them. One is asked with the bytes that would go to it, and its reply is read of those that would come back; so an ask fails only where memory does.
 #[derive(Drop)]
-pub struct Neighbours<'a, S: Store> {
+pub(crate) struct Neighbours<'a, S: Store> {
     pub(crate) rows: &'a mut Rows<S>,
 }
 
