@@ -1,8 +1,7 @@
 -- A connection that `pipe` serves, and one for which there was no memory to begin with.
-use Rattle.std.proofs.Common.{◌≡◌, ℕ, List, [], Option, arith, inr, refl, subst}
-use Rattle.zot_outside.proofs.StreamLemmas.{Appends-nil, Takes-nil}
+use Rattle.std.proofs.Common.{◌≡◌, ℕ, List, Option, inr, refl, subst}
 use Rattle.zot_rows.specs.Histories.{RowStates, empty_rows}
-use Rattle.zot_session.specs.Ending.{after, unread}
+use Rattle.zot_session.proofs.SessionLemmas.{never_began}
 use Rattle.zot_session.specs.Session.{Served}
 use Rattle.zot_session.specs.declared.end.End.{End}
 use Rattle.zot_session.specs.declared.end.End.TheVariants as ends
@@ -20,19 +19,7 @@ pub unserved : (told : Option ℕ) (left held : Option (List ℕ)) → Pipes tol
 unserved told left held = record {
   row_of = λ name. 0;
   table = empty_rows;
-  served = record {
-    taken = [];
-    exchanges = [];
-    rest = [];
-    sent = [];
-    reads = Takes-nil left;
-    writes = Appends-nil held;
-    messages = refl;
-    routed = tt;
-    has_history = records_none (λ name. 0) told empty_rows;
-    within = omega arith;
-    ending = after [] tt refl (unread refl refl);
-  };
+  served = never_began (λ exchanges. Records (λ name. 0) told empty_rows exchanges empty_rows) (records_none (λ name. 0) told empty_rows) left held;
   of_bytes = λ none. absurd (none (inr (inr refl)));
   faults = λ row. refl;
 }

@@ -135,21 +135,21 @@ module _ {A : Type 0} (answers : A → Request → Reply → A → Type 0) where
       let fits = g.took.within within in
       omega arith
 
-  -- a connection for which memory ran out before it began
-  pub never_began : (old : A) (left held : Option (List ℕ)) → Served (λ exchanges. Conducts answers old exchanges old) ends.NoMemory left left held held
-  never_began old left held = record {
-    taken = [];
-    exchanges = [];
-    rest = [];
-    sent = [];
-    reads = Takes-nil left;
-    writes = Appends-nil held;
-    messages = refl;
-    routed = tt;
-    has_history = refl;
-    within = omega arith;
-    ending = after [] tt refl (unread refl refl);
-  }
+-- a connection for which memory ran out before it began
+pub never_began : (history : List Exchange → Type 0) → history [] → (left held : Option (List ℕ)) → Served history ends.NoMemory left left held held
+never_began history none left held = record {
+  taken = [];
+  exchanges = [];
+  rest = [];
+  sent = [];
+  reads = Takes-nil left;
+  writes = Appends-nil held;
+  messages = refl;
+  routed = tt;
+  has_history = none;
+  within = omega arith;
+  ending = after [] tt refl (unread refl refl);
+}
 
 -- another history of the same exchanges
 pub served_map : {first : List Exchange → Type 0} {end : End} {left left' held held' : Option (List ℕ)} (second : List Exchange → Type 0) → ((exchanges : List Exchange) → AllByRecursion IsRouted exchanges → first exchanges → second exchanges)

@@ -1,11 +1,11 @@
-use Rattle.std.proofs.Common.{◌∙◌}
+use Rattle.std.proofs.Common.{refl, ◌∙◌}
 use Rattle.zot_session.proofs.CauseLemmas.{causes_map}
 use Rattle.zot_session.proofs.EndLemmas.{of_bytes}
 use Rattle.zot_session.proofs.SessionLemmas.{never_began, smaller, so_far_ends, so_far_more}
 use Rattle.zot_session.proofs.serving.session.Goals as goal
 
 pub returns-in_default-clause-served : goal.returns-in_default-clause-served
-returns-in_default-clause-served g c = never_began g.A.Answers.answers _ _ _
+returns-in_default-clause-served g c = never_began _ refl _ _
 
 pub returns-in-Some-clause-served : goal.returns-in-Some-clause-served
 returns-in-Some-clause-served g c = so_far_ends g.A.Answers.answers c.turns.invariant.served c.in-Some.ensures.ends

@@ -1,6 +1,6 @@
 use Rattle.std.proofs.Common.{◌++◌, ◌∙◌, ap}
 use Rattle.std.specs.Vec.Iter.{into_iter_items}
-use Rattle.zotd.proofs.ArgumentLemmas.{given_all, given_more}
+use Rattle.zot_host.proofs.PartLemmas.{given_all, given_more}
 use Rattle.zotd.proofs.arguments.all_of.Goals as goal
 
 pub loop-word-preserved : goal.loop-word-preserved
