@@ -1,13 +1,11 @@
 -- What the parts of a cluster stand for when they are given back.
-use Rattle.std.proofs.Common.{◌≡◌, ◌<◌, ◌≤◌, ◌*◌, ℕ, List, length, map, get_or, Option, Some, None, IfSome, option_map, inl, inr, refl, sym, ap, subst, ◌∙◌, arith}
+use Rattle.std.proofs.Common.{◌≡◌, ◌<◌, ◌≤◌, ℕ, List, length, map, get_or, Option, Some, None, IfSome, option_map, inl, inr, refl, sym, ap, subst, ◌∙◌, arith}
 use Rattle.std.specs.Prelude.{◌⊎◌, unwrap_or}
-use Rattle.std.specs.FinMap as finite
 use Rattle.std.specs.List.{All, slice_get}
 use Rattle.std.specs.Option.{option_flatten}
 use Rattle.std.proofs.lemmas.List.{get_or-map, length-map}
 use Rattle.std.proofs.lemmas.Option.{slice_get-map, slice_get_cases}
 use Rattle.zot_contents.specs.Pool.{Holders}
-use Rattle.zot_digest.specs.Digest.{IsDigest}
 use Rattle.zot_layout.specs.Stands.{StandsForRow}
 use Rattle.zot_layout.specs.Writing.{StandsWhereTold}
 use Rattle.zot_model.specs.State.{RepoState, RowState, Stored, empty_row, repo_at}
@@ -17,7 +15,7 @@ use Rattle.zot_pool.specs.Pools.{holds, part_at}
 use Rattle.zot_repo.proofs.RowLemmas.{repo_is}
 use Rattle.zot_repo.proofs.StandLemmas.{stands_held}
 use Rattle.zot_repo.specs.RowGoing.{IsOwn, StandsForTables}
-use Rattle.zot_repo.specs.Rows.{AgreesRow, Tables, state_of, table_at, under}
+use Rattle.zot_repo.specs.Rows.{AgreesRow, table_at, under}
 use Rattle.zot_repo.specs.declared.row_config.RowConfig.{RowConfig}
 use Rattle.zot_repo.specs.declared.shard.RepoShard.{RepoShard}
 use Rattle.zot_rows.specs.Agreed.{AllStand, AreAgreed, AreRows, IsRow}

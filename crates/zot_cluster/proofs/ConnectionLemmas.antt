@@ -13,7 +13,7 @@ use Rattle.zot_outside.proofs.MomentLemmas.{stays_itself, stays_through}
 use Rattle.zot_outside.specs.Moments.{StaysAt}
 use Rattle.zot_outside.specs.declared.stores.store.Store.{Ghosts}
 use Rattle.zot_rows.specs.Histories.{BothTell}
-use Rattle.zot_rows.specs.Rows.{AreAgreedIn, HaveCause, failed_in, pool_faults, states_of}
+use Rattle.zot_rows.specs.Rows.{HaveCause, failed_in, pool_faults, states_of}
 use Rattle.zot_rows.specs.declared.rows.Rows.{Rows}
 use Rattle.zot_session.specs.Exchanges.{Conducts, Exchange, answered, declined}
 use Rattle.zot_session.specs.Messages.{Message}

@@ -1,5 +1,5 @@
 -- Entries of a connection's requests, one after another.
-use Rattle.std.proofs.Common.{◌≡◌, ◌≢◌, ◌≤◌, ◌+◌, ◌-◌, ◌^◌, arith, inl, inr, ℕ, true, List, [], ◌∷◌, ◌++◌, Option, Some, None, refl}
+use Rattle.std.proofs.Common.{◌≡◌, ◌≢◌, ◌≤◌, arith, inl, inr, ℕ, true, List, [], ◌∷◌, ◌++◌, Option, Some, None, refl}
 use Rattle.std.specs.Prelude.{◌⊎◌, IsSomeAnd}
 use Rattle.zot_repo.specs.declared.row_config.RowConfig.{RowConfig}
 use Rattle.zot_history.specs.History.{entries_of}
@@ -22,7 +22,7 @@ use Rattle.zot_rows.specs.Histories.{EachRuns, RowStates}
 use Rattle.zot_session.specs.Exchanges.{Exchange, answered, declined}
 use Rattle.zot_session.specs.Messages.{Message}
 use Rattle.zot_spell.specs.Wire.{with_hop}
-use Rattle.zot_cluster.specs.Entries.{AllHadMemory, AreCarried, AreEntries, AreLost, AreMade, AreOf, HadMemory, HappensPlainly, PlainRun, Records}
+use Rattle.zot_cluster.specs.Entries.{AllHadMemory, AreEntries, AreMade, AreOf, HadMemory, HappensPlainly, PlainRun, Records}
 
 -- ---- what the clock tells
 

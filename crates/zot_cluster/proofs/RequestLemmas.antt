@@ -1,5 +1,5 @@
 -- What a request at a member makes: its entries, and where its reply may say that the storage failed.
-use Rattle.std.proofs.Common.{◌≡◌, ◌≢◌, ◌<◌, ◌*◌, ℕ, true, false, Bool, List, [], length, map, Option, Some, None, IfSome, IsSome, option_map, inl, inr, refl, sym, ap, subst, ◌∙◌, arith}
+use Rattle.std.proofs.Common.{◌≡◌, ◌≢◌, ◌*◌, ℕ, true, false, Bool, List, [], length, Option, Some, None, IfSome, IsSome, option_map, inl, inr, refl, sym, ap, subst, ◌∙◌, arith}
 use Rattle.std.specs.Prelude.{◌⊎◌, IsSomeAnd, slice_index, unwrap_or, if◌then◌else◌}
 use Rattle.std.proofs.lemmas.List.{ext_get_or, length-map}
 use Rattle.std.proofs.lemmas.Option.{slice_get-map, unwrap_or-slice_get}
@@ -8,8 +8,8 @@ use native.Mathlib.Decide.{ℕ_discrete}
 use Rattle.zot_repo.specs.declared.row_config.RowConfig.{RowConfig}
 use Rattle.zot_history.specs.History.{signed}
 use Rattle.zot_member.specs.Answering.{AnswersIn}
-use Rattle.zot_member.specs.Neighbours.{CarriesBack, Loses, MakesAt}
-use Rattle.zot_member.specs.Places.{place_named, place_of}
+use Rattle.zot_member.specs.Neighbours.{CarriesBack, MakesAt}
+use Rattle.zot_member.specs.Places.{place_named}
 use Rattle.zot_member.specs.declared.place.Place.{Place}
 use Rattle.zot_member.specs.declared.place.Place.TheVariants as places
 use Rattle.zot_model.specs.Calls.{is_head}
@@ -35,7 +35,7 @@ use Rattle.zot_spell.specs.Alike.{AreAlike, AreDetailsAlike}
 use Rattle.zot_spell.specs.Wire.{with_hop}
 use Rattle.zot_cluster.proofs.EntryLemmas.{IsMade}
 use Rattle.zot_cluster.specs.Connections.{HasReplyCause, failures_of}
-use Rattle.zot_cluster.specs.Entries.{AreLost, AreMade, AreOf}
+use Rattle.zot_cluster.specs.Entries.{AreMade, AreOf}
 
 -- ---- what is told
 

@@ -1,5 +1,5 @@
 -- The entries that the requests of a connection make in the rows of a cluster, each with the number of its row.
-use Rattle.std.specs.Prelude.{◌≡◌, ◌≢◌, ◌⊎◌, ℕ, true, List, [], ◌∷◌, ◌++◌, Option, Some, None, IfSome, IsSomeAnd, ⊤}
+use Rattle.std.specs.Prelude.{◌≡◌, ◌≢◌, ◌⊎◌, ℕ, true, List, [], ◌∷◌, ◌++◌, Option, IsSomeAnd, ⊤}
 use Rattle.std.specs.List.{AllByRecursion}
 use Rattle.zot_repo.specs.declared.row_config.RowConfig.{RowConfig}
 use Rattle.zot_history.specs.History.{entries_of, signed}

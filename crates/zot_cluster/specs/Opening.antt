@@ -1,5 +1,5 @@
 -- A cluster that was opened over its parts.
-use Rattle.std.specs.Prelude.{◌≡◌, ℕ, Bool, true, List, map, Option, IfSome}
+use Rattle.std.specs.Prelude.{◌≡◌, ℕ, Bool, true, List, map, IfSome}
 use Rattle.std.specs.List.{All}
 use Rattle.zot_repo.specs.declared.row_config.RowConfig.{RowConfig}
 use Rattle.zot_outside.specs.declared.stores.store.Store.{Ghosts}

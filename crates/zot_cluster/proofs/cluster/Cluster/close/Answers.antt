@@ -1,4 +1,4 @@
-use Rattle.std.proofs.Common.{IfSome, List, map, sym, ap, subst}
+use Rattle.std.proofs.Common.{IfSome, map, sym, ap, subst}
 use Rattle.zot_pool.specs.Pools.{holds, objects_of}
 use Rattle.zot_rows.proofs.OpeningLemmas.{closed_parts}
 use Rattle.zot_rows.specs.Rows.{states_of}
