@@ -1,0 +1,6 @@
+pub mod Configured
+pub mod Entries
+pub mod Views
+pub mod Connections
+pub mod Parts
+pub mod Opening
