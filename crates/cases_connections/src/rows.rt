@@ -1,8 +1,13 @@
 //! Connections over the same rows.
+use std::alloc::Global;
 use zot_cases::Answer;
-use zot_commands::{memory_rows, serve_rows};
-use zot_fakes::{HandClock, MemorySink, MemorySource};
-use zot_outside::Clock;
+use zot_cluster::serve_rows;
+use zot_commands::memory_rows;
+use zot_fakes::{HandClock, MemorySink, MemorySource, SteadyStore};
+use zot_outside::{Clock, OpenGate};
+use zot_pool::MemoryUpstream;
+use zot_rows::Rows;
+use zot_session::End;
 
 /// A clock that counts how often it was asked.
 #[derive(Drop)]
@@ -30,7 +35,7 @@ pub fn moments(answer: &mut Answer, given: &str) {
     let mut clock = CountingClock { asked: 0 };
     let mut source = MemorySource::new(answer.read(given), 64, Vec::new(alloc));
     let mut sink = MemorySink::new(alloc, Vec::new(alloc));
-    let end = serve_rows(alloc, &mut rows, &mut clock, &mut source, &mut sink);
+    let end = serve(alloc, &mut rows, &mut clock, &mut source, &mut sink);
     answer.show(&(clock.asked, end));
 }
 
@@ -44,8 +49,31 @@ pub fn connections(answer: &mut Answer, given: &str) {
     for input in given.split(" & ") {
         let mut source = MemorySource::new(answer.read(input), 32, Vec::new(alloc));
         let mut sink = MemorySink::in_pieces(alloc, 32, Vec::new(alloc));
-        serve_rows(alloc, &mut rows, &mut clock, &mut source, &mut sink);
+        serve(alloc, &mut rows, &mut clock, &mut source, &mut sink);
         answer.begin();
         answer.write(sink.written().get(..12).unwrap_or(b"no reply"));
     }
+}
+
+// How a connection at the one member of these rows ends.
+fn serve<T: Clock>(
+    alloc: Global,
+    rows: &mut Rows<SteadyStore>,
+    clock: &mut T,
+    source: &mut MemorySource,
+    sink: &mut MemorySink,
+) -> End {
+    let mut scratch = SteadyStore::new(alloc);
+    let mut upstream = MemoryUpstream::empty();
+    serve_rows(
+        alloc,
+        rows,
+        0,
+        &mut scratch,
+        &mut upstream,
+        clock,
+        &OpenGate,
+        source,
+        sink,
+    )
 }

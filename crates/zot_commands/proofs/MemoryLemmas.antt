@@ -1,11 +1,13 @@
 -- Rows in memory: stores that have no object, and none of which fails.
-use Rattle.std.proofs.Common.{◌≡◌, ◌<◌, ◌+◌, ◌*◌, arith, inl, inr, ℕ, zero, suc, Bool, true, false, ◌&&◌, List, [], ◌∷◌, length, map, Option, Some, None, Ok, Err, IfSome, IsSomeAnd, option_map, refl, sym, ap, ◌∙◌, subst}
+use Rattle.std.proofs.Common.{◌≡◌, ◌<◌, arith, inl, inr, ℕ, zero, suc, Bool, true, false, ◌&&◌, List, [], ◌∷◌, length, map, Option, Some, None, Ok, Err, IfSome, IsSomeAnd, option_map, refl, sym, ap, ◌∙◌, subst}
 use Rattle.std.specs.Prelude.{IsSome, sum, is_some, unwrap_or, slice_index, if◌then◌else◌}
 use Rattle.std.specs.FinMap as finite
 use Rattle.std.specs.FinMap.{get-empty}
 use Rattle.std.specs.List.{All, list_all, slice_get, sum_by}
 use Rattle.std.proofs.lemmas.List.Sums.{sum-map, sum_by-cons}
 use Rattle.std.proofs.lemmas.Option.{slice_get_within}
+use Rattle.zot_cluster.proofs.EntryLemmas.{recorded}
+use Rattle.zot_cluster.specs.Entries.{Records}
 use Rattle.zot_contents.specs.Opening.{IsFirstBad}
 use Rattle.zot_contents.specs.Pool.{Holders}
 use Rattle.zot_contents.specs.Shards.{IsTightTree, shard_of, shards}
@@ -32,7 +34,7 @@ use Rattle.zot_pool.specs.Opening.{AreTightTrees, IsFirstBadPart}
 use Rattle.zot_pool.specs.Pools.{held_in, held_of, holds, objects_of, part_at}
 use Rattle.zot_rows.proofs.HistoryLemmas.{each_append}
 use Rattle.zot_rows.specs.Agreed.{AreAgreed, AreRows}
-use Rattle.zot_rows.specs.Histories.{EachRuns, RowStates, empty_rows}
+use Rattle.zot_rows.specs.Histories.{BothTell, EachRuns, RowStates, empty_rows}
 use Rattle.zot_rows.specs.Listing.{rows_of}
 use Rattle.zot_rows.specs.Opening.{AreOpenedRows, HasRowsCause, IsFirstBadRow, RefusesObject}
 use Rattle.zot_rows.specs.Rows.{AreAgreedIn, HaveCause, failed_in, faults_of_row, pool_faults, state_beside, states_beside, states_of}
@@ -44,9 +46,6 @@ use Rattle.zot_table.proofs.StandingLemmas.{fresh_is}
 use Rattle.zot_table.specs.Opening.{IsOpenedWith, found_blob}
 use Rattle.zot_table.specs.Standing.{Holds, repo_of}
 use Rattle.zot_table.specs.Tables.{RepoTable, fresh_table}
-use Rattle.zot_commands.proofs.EntryLemmas.{recorded}
-use Rattle.zot_commands.specs.Entries.{Records}
-use Rattle.zot_commands.specs.Serving.{RecordsWhereTold}
 
 -- ---- no object
 
@@ -250,11 +249,11 @@ module _ {S : Type 0} {G : Ghosts S} where
 -- ---- a connection over them
 
 -- entries from rows that have no repository are entries from the empty rows
-from_empty : (row_of : List ℕ → ℕ) (told : Option ℕ) (old new : RowStates) (exchanges : List Exchange) → EachRuns empty_rows [] old → Records row_of told old exchanges new → Records row_of told empty_rows exchanges new
-from_empty row_of told old new exchanges empty ran = recorded row_of told empty_rows new exchanges ran.made ran.own (each_append empty_rows old new [] ran.made empty ran.run)
+from_empty : (config : RowConfig) (member : ℕ) (told : Option ℕ) (old new : RowStates) (exchanges : List Exchange) → EachRuns empty_rows [] old → Records config member told old exchanges new → Records config member told empty_rows exchanges new
+from_empty config member told old new exchanges empty ran = recorded config member told empty_rows new exchanges ran.made ran.own (each_append empty_rows old new [] ran.made empty ran.run)
 
-pub in_memory : (row_of : List ℕ → ℕ) (told : Option ℕ) (old new : Option RowStates) (exchanges : List Exchange) → IsSomeAnd old (EachRuns empty_rows []) → RecordsWhereTold row_of told old exchanges new
-    → Records row_of told empty_rows exchanges (unwrap_or new empty_rows)
-in_memory row_of told None new exchanges empty ran = absurd empty
-in_memory row_of told (Some old) None exchanges empty ran = absurd ran
-in_memory row_of told (Some old) (Some new) exchanges empty ran = from_empty row_of told old new exchanges empty ran
+pub in_memory : (config : RowConfig) (member : ℕ) (told : Option ℕ) (old new : Option RowStates) (exchanges : List Exchange) → IsSomeAnd old (EachRuns empty_rows [])
+    → BothTell old new (λ before after. Records config member told before exchanges after) → Records config member told empty_rows exchanges (unwrap_or new empty_rows)
+in_memory config member told None new exchanges empty ran = absurd empty
+in_memory config member told (Some old) None exchanges empty ran = absurd ran
+in_memory config member told (Some old) (Some new) exchanges empty ran = from_empty config member told old new exchanges empty ran

@@ -1,9 +1,10 @@
 -- What `verify` did for its words.
 use Rattle.std.proofs.Common.{◌≡◌, ℕ, List, [], ◌∷◌, Option, ap, sym, subst, codes, ◌∙◌}
 use Rattle.std.specs.List.{concat}
+use Rattle.zot_commands.specs.Program.{config_line, missing_line}
+use Rattle.zot_commands.specs.PipeEndings.{bad_index_line, bad_meta_line}
 use Rattle.zot_commands.specs.Verify.{RunsVerify, Verifies, ending_line, ending_status, verify_words}
 use Rattle.zot_commands.specs.declared.ending.Ending.{Ending}
-use Rattle.zot_commands.specs.declared.ending.Ending.TheVariants as endings
 use Rattle.zot_outside.specs.Objects.{Objects}
 
 -- the words are those of one path
@@ -19,13 +20,20 @@ runs_verify words files code Wrote WrotePart Silent Noted found ending are ended
     λ path is. subst (λ p. (e : Ending) × Verifies files p e Wrote WrotePart Silent × (code ≡ ending_status e) × Noted (ending_line p e)) (one_path found path (sym are ∙ is)) (ending, ended, status, noted)
 
 -- the line for a wrong field, of a field's path and of what was found
-pub wrong_line : (path a b field found : List ℕ) → a ≡ field → b ≡ found
-    → concat (codes "zotd: config " ∷ a ∷ codes ": " ∷ b ∷ codes "\n" ∷ []) ≡ ending_line path (endings.Wrong field found)
-unfolding ending_line
-wrong_line path a b field found h k =
+pub wrong_line : (a b field found : List ℕ) → a ≡ field → b ≡ found → concat (codes "zotd: config " ∷ a ∷ codes ": " ∷ b ∷ codes "\n" ∷ []) ≡ config_line field found
+unfolding config_line
+wrong_line a b field found h k =
     ap (λ f. concat (codes "zotd: config " ∷ f ∷ codes ": " ∷ b ∷ codes "\n" ∷ [])) h ∙ ap (λ t. concat (codes "zotd: config " ∷ field ∷ codes ": " ∷ t ∷ codes "\n" ∷ [])) k
 
--- that for a missing file
-pub missing_line : (path a : List ℕ) → a ≡ path → concat (codes "zotd: missing " ∷ a ∷ codes "\n" ∷ []) ≡ ending_line path endings.Missing
-unfolding ending_line
-missing_line path a h = ap (λ p. concat (codes "zotd: missing " ∷ p ∷ codes "\n" ∷ [])) h
+-- the lines for a missing file, and for an object without a meaning, of a path
+pub missing_path_line : (path a : List ℕ) → a ≡ path → concat (codes "zotd: missing " ∷ a ∷ codes "\n" ∷ []) ≡ missing_line path
+unfolding missing_line
+missing_path_line path a h = ap (λ p. concat (codes "zotd: missing " ∷ p ∷ codes "\n" ∷ [])) h
+
+pub index_path_line : (path a : List ℕ) → a ≡ path → concat (codes "zotd: bad index " ∷ a ∷ codes "\n" ∷ []) ≡ bad_index_line path
+unfolding bad_index_line
+index_path_line path a h = ap (λ p. concat (codes "zotd: bad index " ∷ p ∷ codes "\n" ∷ [])) h
+
+pub meta_path_line : (path a : List ℕ) → a ≡ path → concat (codes "zotd: bad meta " ∷ a ∷ codes "\n" ∷ []) ≡ bad_meta_line path
+unfolding bad_meta_line
+meta_path_line path a h = ap (λ p. concat (codes "zotd: bad meta " ∷ p ∷ codes "\n" ∷ [])) h

@@ -1,5 +1,5 @@
-pub mod Closing
-pub mod Entries
+pub mod Memory
+pub mod PipeEndings
 pub mod Program
-pub mod Serving
+pub mod Storage
 pub mod Verify

@@ -1,11 +1,11 @@
 -- What `verify` does: the words, the line that it writes, how it ends, its exit status and its note.
-use Rattle.std.specs.Prelude.{◌≡◌, ◌≢◌, ℕ, List, [], ◌∷◌, length, Option, None, Ok, Err, codes}
+use Rattle.std.specs.Prelude.{◌≡◌, ◌≢◌, ℕ, List, [], ◌∷◌, length, Option, Ok, Err, codes}
 use Rattle.std.specs.Fmt.{decimal}
 use Rattle.std.specs.List.{concat}
 use Rattle.zot_config.specs.Settings.{Settings}
 use Rattle.zot_host.specs.Configured.{Gives}
 use Rattle.zot_outside.specs.Objects.{IsMissing, Objects}
-use Rattle.zot_commands.specs.Program.{line, pipe_words, words_line, words_status}
+use Rattle.zot_commands.specs.Program.{AreNoPipe, config_line, host_fault_line, missing_line, no_memory_line, words_line, words_status, write_fault_line}
 use Rattle.zot_commands.specs.declared.ending.Ending.{Ending}
 use Rattle.zot_commands.specs.declared.ending.Ending.TheVariants as endings
 
@@ -27,13 +27,13 @@ ending_status endings.HostFault = 12
 ending_status endings.Missing = 14
 
 -- the line for an ending, if it has one; the path is that of the configuration
-unfoldable pub ending_line : List ℕ → Ending → List ℕ
+abbrev pub ending_line : List ℕ → Ending → List ℕ
 ending_line path endings.Done = []
-ending_line path endings.WriteFault = line (codes "zotd: write fault") None
-ending_line path endings.NoMemory = line (codes "zotd: no memory") None
-ending_line path (endings.Wrong field found) = concat (codes "zotd: config " ∷ field ∷ codes ": " ∷ found ∷ codes "\n" ∷ [])
-ending_line path endings.HostFault = line (codes "zotd: host fault") None
-ending_line path endings.Missing = concat (codes "zotd: missing " ∷ path ∷ codes "\n" ∷ [])
+ending_line path endings.WriteFault = write_fault_line
+ending_line path endings.NoMemory = no_memory_line
+ending_line path (endings.Wrong field found) = config_line field found
+ending_line path endings.HostFault = host_fault_line
+ending_line path endings.Missing = missing_line path
 
 -- the file of the path has a right configuration, and this holds of the line for its members
 abbrev pub IsRight : Option Objects → List ℕ → (List ℕ → Type 0) → Type 0
@@ -59,4 +59,4 @@ RefusesOthers words code Untouched Noted = ((path : List ℕ) → words ≢ veri
 
 -- where these are the words of no command, they were refused, and nothing but the note was touched
 abbrev pub RefusesAll : List (List ℕ) → ℕ → Type 0 → (List ℕ → Type 0) → Type 0
-RefusesAll words code Untouched Noted = words ≢ pipe_words → RefusesOthers words code Untouched Noted
+RefusesAll words code Untouched Noted = AreNoPipe words → RefusesOthers words code Untouched Noted

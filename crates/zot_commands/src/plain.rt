@@ -7,7 +7,7 @@ ghost use Rattle.zot_session.specs.Causes.{Causes};
 ghost use Rattle.zot_session.specs.Sending.{WritesPart};
 
 use crate::ending::ending_status;
-use crate::notes::{note, note_ending};
+use crate::notes::{note_ending, note_words};
 use crate::status::Status;
 use crate::verifying::verify;
 use std::alloc::Global;
@@ -15,7 +15,6 @@ use zot_host::Host;
 use zot_outside::Sink;
 
 /// Runs the command of these words. `verify` reads the configuration in a file of the host and writes how many members it has. Other words are refused with the status 2: for them the host isn't asked, and nothing is written to the output.
-#[tactic(auto, unfolding(crate::specs::Program::words_line))]
 pub fn run_plain<H: Host, K: Sink, N: Sink>(
     alloc: Global,
     words: &[String],
@@ -40,7 +39,7 @@ pub fn run_plain<H: Host, K: Sink, N: Sink>(
             }
         }
         None => {
-            note(notes, b"zotd: words");
+            note_words(notes);
             Status { code: 2 }
         }
     }

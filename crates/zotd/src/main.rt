@@ -1,6 +1,6 @@
 //! The registry's program. It hands the real streams, host and words to `run_given`, and ends with the status that this answers.
 //!
-//! `zotd pipe` serves one connection from standard input to standard output, and `zotd verify FILE` reads a configuration.
+//! `zotd pipe` serves one connection from standard input to standard output over rows in memory, `zotd pipe CONFIG MEMBER` at a member of a configured cluster over its storage, and `zotd verify CONFIG` reads a configuration.
 #![tactic(auto)]
 
 mod arguments;

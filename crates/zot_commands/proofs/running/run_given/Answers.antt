@@ -7,6 +7,11 @@ returns-in-Ok-clause-pipe g c =
     let same = ap (λ words. map string_bytes words) (c.after_name.ensures ∙ ap (λ words. drop 1 words) c.as_slice.ensures.value) in
     rw (c.in-Ok.is, ← same) c.run_words.ensures.pipe
 
+pub returns-in-Ok-clause-pipe_at : goal.returns-in-Ok-clause-pipe_at
+returns-in-Ok-clause-pipe_at g c =
+    let same = ap (λ words. map string_bytes words) (c.after_name.ensures ∙ ap (λ words. drop 1 words) c.as_slice.ensures.value) in
+    rw (c.in-Ok.is, ← same) c.run_words.ensures.pipe_at
+
 pub returns-in-Ok-clause-verify : goal.returns-in-Ok-clause-verify
 returns-in-Ok-clause-verify g c =
     let same = ap (λ words. map string_bytes words) (c.after_name.ensures ∙ ap (λ words. drop 1 words) c.as_slice.ensures.value) in

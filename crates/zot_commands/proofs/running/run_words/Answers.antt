@@ -1,7 +1,7 @@
 use Rattle.std.proofs.Common.{◌∙◌, refl, sym, map, string_bytes}
 use Rattle.std.proofs.lemmas.Bool.{true≢false}
-use Rattle.zot_commands.proofs.StatusLemmas.{no_host_fault, no_read_fault}
-use Rattle.zot_commands.proofs.WordLemmas.{pipe_waits, verify_returns}
+use Rattle.zot_commands.proofs.StatusLemmas.{no_read_fault}
+use Rattle.zot_commands.proofs.WordLemmas.{pipe_at_waits, pipe_waits, verify_returns}
 use Rattle.zot_commands.proofs.running.run_words.Goals as goal
 
 pub returns-then-is_waiting-clause-verify : goal.returns-then-is_waiting-clause-verify
@@ -11,12 +11,13 @@ returns-then-is_waiting-clause-verify g c =
 pub returns-then-is_waiting-clause-words : goal.returns-then-is_waiting-clause-words
 returns-then-is_waiting-clause-words g c = λ no_pipe no_verify. c.run_waiting.ensures.words no_pipe
 
-pub returns-then-is_waiting-clause-host : goal.returns-then-is_waiting-clause-host
-returns-then-is_waiting-clause-host g c = record { rose = λ t. absurd (no_host_fault c.run_waiting.result.code c.run_waiting.ensures.status t); kept = λ f. c.run_waiting.ensures.host }
-
 pub returns-else-is_waiting-clause-pipe : goal.returns-else-is_waiting-clause-pipe
 returns-else-is_waiting-clause-pipe g c =
     λ is. absurd (true≢false (sym (pipe_waits (map string_bytes c.args.words.now) is) ∙ sym c.is_waiting.ensures ∙ c.if-is_waiting.false))
+
+pub returns-else-is_waiting-clause-pipe_at : goal.returns-else-is_waiting-clause-pipe_at
+returns-else-is_waiting-clause-pipe_at g c =
+    λ path member are. absurd (true≢false (sym (pipe_at_waits (map string_bytes c.args.words.now) path member are) ∙ sym c.is_waiting.ensures ∙ c.if-is_waiting.false))
 
 pub returns-else-is_waiting-clause-words : goal.returns-else-is_waiting-clause-words
 returns-else-is_waiting-clause-words g c = λ no_pipe no_verify. let h = c.run_plain.ensures.words no_verify in (h.0, (h.1.0, refl, h.1.1), h.2)

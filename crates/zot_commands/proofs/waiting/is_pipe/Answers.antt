@@ -1,5 +1,5 @@
 use Rattle.zot_commands.proofs.WordLemmas.{one_word}
-use Rattle.zot_commands.proofs.running.is_pipe.Goals as goal
+use Rattle.zot_commands.proofs.waiting.is_pipe.Goals as goal
 
 pub returns-in-len1 : goal.returns-in-len1
 returns-in-len1 c =

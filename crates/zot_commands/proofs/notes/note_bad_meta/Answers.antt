@@ -1,0 +1,5 @@
+use Rattle.zot_commands.proofs.VerifyLemmas.{meta_path_line}
+use Rattle.zot_commands.proofs.notes.note_bad_meta.Goals as goal
+
+pub returns : goal.returns
+returns g c = rw (← meta_path_line c.args.path.now c.as_bytes.result.now c.as_bytes.ensures.value) c.note_texts.ensures
