@@ -5,6 +5,7 @@
 
 mod hosts;
 mod parts;
+mod piping;
 mod running;
 
 use std::io;
@@ -26,6 +27,11 @@ fn call(rt: HostRuntime, case: &Case, answer: &mut Answer) {
         "upstreams" => parts::upstreams(answer, given),
         "scratch" => parts::scratch(answer, given),
         "folder" => parts::folder(rt, case, answer),
+        "runs" => piping::runs(answer, given),
+        "object" => piping::with_object(answer, given),
+        "failing" => piping::failing(answer, given),
+        "hosts" => piping::hosts(answer, given),
+        "folders" => piping::folders(rt, case, answer),
         _ => answer.fail("no such call"),
     }
 }
