@@ -69,7 +69,7 @@ pub fn failing(answer: &mut Answer, given: &str) {
     let kept = run_at(&mut Answer::new(alloc), fresh, member, input);
     let steady = run_failing(alloc, kept.as_slice(), PARTS, 1, second);
     let mut same = String::new(alloc);
-    let mut times = 0;
+    let mut times = 0_u64;
     for call in 1..1000 {
         let ran = run_failing(alloc, kept.as_slice(), number(part), call, second);
         if times > 0 && ran.as_str() != same.as_str() {
@@ -79,7 +79,7 @@ pub fn failing(answer: &mut Answer, given: &str) {
         if ran.as_str() == steady.as_str() {
             return;
         }
-        times += 1;
+        times = times.saturating_add(1);
         same = ran;
     }
 }
@@ -113,15 +113,13 @@ fn with_failing(
     call: u64,
 ) -> Result<Vec<MemoryStore>, AllocError> {
     let mut copies = Vec::new(alloc);
-    let mut place = 0;
-    for one in parts {
-        let failing = if place == part {
+    for (place, one) in parts.iter().enumerate() {
+        let failing = if place as u64 == part {
             Vec::from_slice(alloc, &[call])?
         } else {
             Vec::new(alloc)
         };
         copies.push(MemoryStore::new(alloc, one.list(alloc)?, failing)?)?;
-        place += 1;
     }
     Ok(copies)
 }
